@@ -2,6 +2,7 @@
 use Rattle.std.proofs.Common.{◌≡◌, List, [], ◌∷◌, ◌++◌, map, refl, sym, ap, ap₂, ◌∙◌}
 use Rattle.std.specs.Prelude.{Option}
 use Rattle.std.specs.Option.{option_or}
+use Rattle.store_map.specs.declared.call_name.CallName.TheVariants.{Client, Repairer}
 use Rattle.store_map.specs.declared.script.Script.{Script}
 use Rattle.store_map.specs.declared.call_name.CallName.{CallName}
 use Rattle.store_map.specs.declared.line.HLine.{HLine}
@@ -26,18 +27,18 @@ kind_more : {Line : Type 0} (rule : CallName → Option Verdict) (call : Line �
 kind_more rule call calls lines = first_fault-append rule calls (map call lines) ∙ ap (option_or (first_fault rule calls)) (over_lines rule call lines)
 
 pub all_kinds : (script : Script) (t : Transcript)
-    → option_or (option_or (option_or (option_or (first_fault (λ (line : HLine). call_exists script line.call) t.history) (first_fault (λ (line : XLine). call_exists script line.call) t.refused))
-    (first_fault (λ (line : RLine). call_exists script line.call) t.repairs)) (first_fault (λ (line : OLine). call_exists script line.call) t.unanswered)) (first_fault (λ (line : GLine). call_exists script line.call) t.takes)
+    → option_or (option_or (option_or (option_or (first_fault (λ (line : HLine). call_exists script (Client line.call)) t.history) (first_fault (λ (line : XLine). call_exists script (Client line.call)) t.refused))
+    (first_fault (λ (line : RLine). call_exists script (Repairer line.call)) t.repairs)) (first_fault (λ (line : OLine). call_exists script line.call) t.unanswered)) (first_fault (λ (line : GLine). call_exists script line.call) t.takes)
     ≡ calls_exist script t
 all_kinds script t =
     let rule = call_exists script in
-    let h = over_lines rule (λ (line : HLine). line.call) t.history in
-    let x = kind_more rule (λ (line : XLine). line.call) (map (λ (line : HLine). line.call) t.history) t.refused in
-    let r = kind_more rule (λ (line : RLine). line.call) (map (λ (line : HLine). line.call) t.history ++ map (λ (line : XLine). line.call) t.refused) t.repairs in
-    let o = kind_more rule (λ (line : OLine). line.call) (map (λ (line : HLine). line.call) t.history ++ map (λ (line : XLine). line.call) t.refused ++ map (λ (line : RLine). line.call) t.repairs) t.unanswered in
+    let h = over_lines rule (λ (line : HLine). Client line.call) t.history in
+    let x = kind_more rule (λ (line : XLine). Client line.call) (map (λ (line : HLine). Client line.call) t.history) t.refused in
+    let r = kind_more rule (λ (line : RLine). Repairer line.call) (map (λ (line : HLine). Client line.call) t.history ++ map (λ (line : XLine). Client line.call) t.refused) t.repairs in
+    let o = kind_more rule (λ (line : OLine). line.call) (map (λ (line : HLine). Client line.call) t.history ++ map (λ (line : XLine). Client line.call) t.refused ++ map (λ (line : RLine). Repairer line.call) t.repairs) t.unanswered in
     let g = kind_more rule (λ (line : GLine). line.call)
-    (map (λ (line : HLine). line.call) t.history ++ map (λ (line : XLine). line.call) t.refused ++ map (λ (line : RLine). line.call) t.repairs ++ map (λ (line : OLine). line.call) t.unanswered) t.takes in
+    (map (λ (line : HLine). Client line.call) t.history ++ map (λ (line : XLine). Client line.call) t.refused ++ map (λ (line : RLine). Repairer line.call) t.repairs ++ map (λ (line : OLine). line.call) t.unanswered) t.takes in
     sym (g ∙ ap (λ (found : Option Verdict). option_or found (first_fault (λ (line : GLine). rule line.call) t.takes))
     (o ∙ ap (λ (found : Option Verdict). option_or found (first_fault (λ (line : OLine). rule line.call) t.unanswered))
-    (r ∙ ap (λ (found : Option Verdict). option_or found (first_fault (λ (line : RLine). rule line.call) t.repairs))
-    (x ∙ ap (λ (found : Option Verdict). option_or found (first_fault (λ (line : XLine). rule line.call) t.refused)) h))))
+    (r ∙ ap (λ (found : Option Verdict). option_or found (first_fault (λ (line : RLine). rule (Repairer line.call)) t.repairs))
+    (x ∙ ap (λ (found : Option Verdict). option_or found (first_fault (λ (line : XLine). rule (Client line.call)) t.refused)) h))))

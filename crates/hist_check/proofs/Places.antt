@@ -1,13 +1,12 @@
 -- Lines whose points rise: at most one stands at a point.
 use Rattle.std.proofs.Common.{◌≡◌, ℕ, zero, suc, ◌<◌, ◌≤◌, ◌⊎◌, Bool, true, false, ltb, eqb, List, [], ◌∷◌, length, get_or, refl, sym, ap, ◌∙◌, None, Some, inl, inr, arith}
-use Rattle.std.specs.Prelude.{◌||◌, ◌&&◌, find}
+use Rattle.std.specs.Prelude.{◌||◌, ◌&&◌, find, nat_eq}
 use Rattle.std.specs.Bool.{⊤}
 use Rattle.std.specs.List.{list_any}
 use Rattle.std.specs.List.Sorted.{IsNonDecreasingBy, IsPartitionPoint}
 use Rattle.std.proofs.lemmas.Bool.{ltb-true, ltb-false, ne_eqb, cases_order, and_left}
 use Rattle.std.proofs.lemmas.List.Folds.{list_any_none}
 use Rattle.store_map.specs.declared.line.HLine.{HLine}
-use Rattle.hist_rules.specs.Calls.{same_actor}
 use Rattle.hist_rules.specs.First.{first_fault_after, first_fault_along}
 use Rattle.hist_rules.specs.PointsRise.{point_rises, number_rises, line_rises}
 use Rattle.hist_losses.proofs.Ors.{none_parts, unless_none}
@@ -23,7 +22,7 @@ above_from_rule : (before : List HLine) (last : HLine) (lines : List HLine) → 
 above_from_rule before last [] e = tt
 above_from_rule before last (line ∷ lines) e =
     let parts = none_parts (line_rises (last ∷ before) line) (first_fault_after line_rises (line ∷ last ∷ before) lines) e in
-    let here = none_parts (point_rises (Some last) line) (number_rises (find (λ other. same_actor line.call other.call) (last ∷ before)) line) parts.0 in
+    let here = none_parts (point_rises (Some last) line) (number_rises (find (λ other. nat_eq line.call.client other.call.client) (last ∷ before)) line) parts.0 in
     (ltb-true last.point line.point (unless_none (ltb last.point line.point) _ here.0), above_from_rule (last ∷ before) line lines parts.1)
 
 above_each : (point : ℕ) (lines : List HLine) → Above point lines → (k : ℕ) (d : HLine) → k < length lines → point < (get_or lines k d).point

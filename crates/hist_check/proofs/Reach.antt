@@ -16,10 +16,10 @@ abbrev pub reaches : List CallName → CallName → ℕ → Bool
 reaches calls call bound = all_below (λ number. is_named (with_number call number) calls) bound
 
 pub same_with : (one other : CallName) → same_actor one other ≡ true → (number : ℕ) → with_number one number ≡ with_number other number
-same_with (Client i m) (Client j n) same number = λ k. Client (eqb-true i j same k) number
-same_with (Repairer i m) (Repairer j n) same number = λ k. Repairer (eqb-true i j same k) number
-same_with (Client i m) (Repairer j n) same number = cc
-same_with (Repairer i m) (Client j n) same number = cc
+same_with (Client a) (Client b) same number = λ k. Client (record { client = eqb-true a.client b.client same k; number = number })
+same_with (Repairer a) (Repairer b) same number = λ k. Repairer (record { repairer = eqb-true a.repairer b.repairer same k; number = number })
+same_with (Client a) (Repairer b) same number = cc
+same_with (Repairer a) (Client b) same number = cc
 
 -- what the table has for a call
 pub reached_at : (calls : List CallName) (call : CallName) (found : Option ℕ) (from : ℕ) → from ≡ unwrap_or found 0 → IfSome found (λ bound. reaches calls call bound ≡ true) → reaches calls call from ≡ true

@@ -13,12 +13,12 @@ use Rattle.hist_rules.specs.GivenUp.{is_reaped}
 use Rattle.hist_rules.specs.declared.verdict.Verdict.TheVariants.{BadCause}
 
 same_turned : (one other third : CallName) → same_actor one other ≡ true → same_actor one third ≡ same_actor other third
-same_turned (Client i a) (Client j b) (Client k c) e = ap (λ (n : ℕ). nat_eq n k) (eqb-true i j e)
-same_turned (Client i a) (Client j b) (Repairer k c) e = refl
-same_turned (Repairer i a) (Repairer j b) (Repairer k c) e = ap (λ (n : ℕ). nat_eq n k) (eqb-true i j e)
-same_turned (Repairer i a) (Repairer j b) (Client k c) e = refl
-same_turned (Client i a) (Repairer j b) third e = absurd (false≢true e)
-same_turned (Repairer i a) (Client j b) third e = absurd (false≢true e)
+same_turned (Client a) (Client b) (Client c) e = ap (λ (n : ℕ). nat_eq n c.client) (eqb-true a.client b.client e)
+same_turned (Client a) (Client b) (Repairer c) e = refl
+same_turned (Repairer a) (Repairer b) (Repairer c) e = ap (λ (n : ℕ). nat_eq n c.repairer) (eqb-true a.repairer b.repairer e)
+same_turned (Repairer a) (Repairer b) (Client c) e = refl
+same_turned (Client a) (Repairer b) third e = absurd (false≢true e)
+same_turned (Repairer a) (Client b) third e = absurd (false≢true e)
 
 -- calls of one actor are counted alike
 counted_alike : (one other : CallName) (before : List CallName) → same_actor one other ≡ true → count_by (same_actor one) before ≡ count_by (same_actor other) before

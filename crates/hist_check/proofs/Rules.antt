@@ -2,6 +2,7 @@
 use Rattle.std.proofs.Common.{◌≡◌, ℕ, ◌+◌, ◌<◌, Bool, List, length, length-append, get_or, take, ◌≤◌, refl, sym, ap, ◌∙◌, arith}
 use Rattle.std.specs.Prelude.{Option, None, Some, reverse, find, ◌||◌}
 use Rattle.std.specs.Option.{option_or}
+use Rattle.store_map.specs.declared.call_name.CallName.TheVariants.{Client}
 use Rattle.store_map.specs.declared.script.Script.{Script}
 use Rattle.store_map.specs.declared.call_name.CallName.{CallName}
 use Rattle.store_map.specs.declared.line.HLine.{HLine}
@@ -34,7 +35,7 @@ set_of set calls others same whole call = whole call ∙ ap (is_named call) same
 -- ---- the two parts of the rule on calls without a reply
 
 abbrev pub effect_fault : Script → Transcript → HLine → Option Verdict
-effect_fault script t line = is_unanswered script t line.call line.reply
+effect_fault script t line = is_unanswered script t (Client line.call) line.reply
 
 pub effect_found : (script : Script) (t : Transcript) (lines : List HLine) (fault : Verdict) → lines ≡ t.history
     → Some fault ≡ first_fault (effect_fault script t) lines → Some fault ≡ one_open_call script t

@@ -8,6 +8,7 @@
 use Rattle.std.proofs.Common.{◌≡◌, ℕ, ◌+◌, ◌<◌, ◌≤◌, Bool, true, false, List, [], ◌∷◌, ◌++◌, length, get_or, drop, sym, ap, ap₂, ◌∙◌, append_assoc, append-nil}
 use Rattle.std.specs.Prelude.{Option, None, Some, Result, Ok, Err, IfOk, ◌||◌}
 use Rattle.std.specs.Option.{option_or}
+use Rattle.store_map.specs.declared.call_name.CallName.TheVariants.{Client, Repairer}
 use Rattle.store_map.specs.declared.call_name.CallName.{CallName}
 use Rattle.store_map.specs.declared.line.HLine.{HLine}
 use Rattle.store_map.specs.declared.line.XLine.{XLine}
@@ -130,7 +131,7 @@ finally_found answered a b c whole found other set new end (Err error) none sear
 
 -- the answers of the three kinds of lines are the answered calls
 pub kinds_of_answers : (t : Transcript) (replies : List HLine) (refusals : List XLine) (results : List RLine) → replies ≡ t.history → refusals ≡ t.refused → results ≡ t.repairs
-    → passing (λ line. line.call) (λ line. is_reply line.reply) replies ++ passing (λ line. line.call) (λ line. true) refusals ++ passing (λ line. line.call) (λ line. true) results ≡ answered_calls t
+    → passing (λ line. Client line.call) (λ line. is_reply line.reply) replies ++ passing (λ line. Client line.call) (λ line. true) refusals ++ passing (λ line. Repairer line.call) (λ line. true) results ≡ answered_calls t
 kinds_of_answers t replies refusals results h x r =
-    ap₂ (λ others last. passing (λ line. line.call) (λ line. is_reply line.reply) replies ++ others ++ last) (all_pass (λ (line : XLine). line.call) refusals) (all_pass (λ (line : RLine). line.call) results)
+    ap₂ (λ others last. passing (λ line. Client line.call) (λ line. is_reply line.reply) replies ++ others ++ last) (all_pass (λ (line : XLine). Client line.call) refusals) (all_pass (λ (line : RLine). Repairer line.call) results)
     ∙ answers_of t replies refusals results h x r

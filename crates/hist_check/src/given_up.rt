@@ -1,5 +1,6 @@
 //! The rule on calls that were given up: no more of an actor than the schedule asks for.
 ghost use Rattle.std.specs.Prelude.{◌≡◌, ◌++◌, map, filter, IfOk, OnOk};
+ghost use Rattle.store_map.specs.declared.call_name.CallName.TheVariants.{Client, Repairer};
 ghost use Rattle.hist_rules.specs.First.{first_fault_along};
 ghost use Rattle.hist_rules.specs.GivenUp.{is_reaped_cause, is_reaped_result, reaped_calls, is_reaped, given_up};
 
@@ -22,22 +23,22 @@ fn is_reaped_result(outcome: &RepairResult) -> bool
 }
 
 fn push_reaped_clients(calls: &mut Vec<CallName>, lines: &[XLine]) -> Result<(), AllocError>
-    ensures { OnOk result (calls.new.items ≡ calls.old.items ++ map (λ line. line.call) (filter (λ line. is_reaped_cause line.cause) lines.now)) }
+    ensures { OnOk result (calls.new.items ≡ calls.old.items ++ map (λ line. Client line.call) (filter (λ line. is_reaped_cause line.cause) lines.now)) }
 {
     for line in lines {
         if is_reaped_cause(&line.cause) {
-            calls.push(line.call)?;
+            calls.push(CallName::Client(line.call))?;
         }
     }
     Ok(())
 }
 
 fn push_reaped_repairers(calls: &mut Vec<CallName>, lines: &[RLine]) -> Result<(), AllocError>
-    ensures { OnOk result (calls.new.items ≡ calls.old.items ++ map (λ line. line.call) (filter (λ line. is_reaped_result line.result) lines.now)) }
+    ensures { OnOk result (calls.new.items ≡ calls.old.items ++ map (λ line. Repairer line.call) (filter (λ line. is_reaped_result line.result) lines.now)) }
 {
     for line in lines {
         if is_reaped_result(&line.result) {
-            calls.push(line.call)?;
+            calls.push(CallName::Repairer(line.call))?;
         }
     }
     Ok(())

@@ -2,6 +2,7 @@
 //! each `open` one has its line there.
 ghost use Rattle.std.specs.Prelude.{◌≡◌, ◌<◌, ◌^◌, List, Option, length, map, find, IfOk, OnOk};
 ghost use Rattle.std.specs.Option.{option_or, option_map};
+ghost use Rattle.store_map.specs.declared.call_name.CallName.TheVariants.{Client};
 ghost use Rattle.hist_rules.specs.Calls.{number_of, same_actor};
 ghost use Rattle.hist_rules.specs.First.{first_fault, first_fault_along};
 ghost use Rattle.hist_rules.specs.Named.{answered_calls};
@@ -21,9 +22,9 @@ use store_map::{CallName, HLine, Script, Shown, Transcript};
 // Whether a line without a reply has its call among those without a reply.
 fn is_unanswered(script: &Script, unanswered: &CallSet, line: &HLine) -> Option<Verdict>
     ensures { (t : Transcript) → IsSetOf unanswered.now (map (λ other. other.call) t.unanswered)
-        → result ≡ is_unanswered script.now t line.now.call line.now.reply }
+        → result ≡ is_unanswered script.now t (Client line.now.call) line.now.reply }
 {
-    let call = line.call;
+    let call = CallName::Client(line.call);
     match line.reply {
         Shown::Reply(_) => None,
         Shown::Unfinished => {
@@ -80,7 +81,7 @@ fn is_only_one(first: Option<u64>, call: CallName) -> Option<Verdict>
 // The first line of the history without a reply whose call has no line of its own.
 fn find_effect(script: &Script, unanswered: &CallSet, lines: &[HLine]) -> Option<Verdict>
     ensures { (t : Transcript) → IsSetOf unanswered.now (map (λ other. other.call) t.unanswered)
-        → result ≡ first_fault (λ line. is_unanswered script.now t line.call line.reply) lines.now }
+        → result ≡ first_fault (λ line. is_unanswered script.now t (Client line.call) line.reply) lines.now }
 {
     for line in lines {
         if let Some(fault) = is_unanswered(script, unanswered, line) {

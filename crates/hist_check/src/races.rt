@@ -1,6 +1,7 @@
 //! The rule on contended calls: each is a write that lost all its tries to changes of its object.
 ghost use Rattle.std.specs.Prelude.{◌≡◌, ℕ, List, None, option_and_then, slice_get};
 ghost use Rattle.std.specs.Option.{option_copied};
+ghost use Rattle.store_map.specs.declared.call_name.CallName.TheVariants.{Client};
 ghost use Rattle.hist_rules.specs.Calls.{call_of};
 ghost use Rattle.hist_rules.specs.First.{first_fault_along};
 ghost use Rattle.hist_rules.specs.PointsRise.{points_rise};
@@ -10,10 +11,10 @@ use crate::changes::is_change_point;
 use hist_losses::blame_unless;
 use hist_rules::Verdict;
 use hist_tables::call_of;
-use store_map::{Call, CallName, Cause, Name, Script, Transcript, XLine};
+use store_map::{Call, CallName, Cause, ClientCall, Name, Script, Transcript, XLine};
 
 // The name of the object that the call writes, where it is a write.
-fn name_written(script: &Script, call: CallName) -> Option<&Name>
+fn name_written(script: &Script, call: ClientCall) -> Option<&Name>
     ensures { option_copied result ≡ option_and_then written_name (call_of script.now call) }
 {
     match call_of(script, call)? {
@@ -80,13 +81,14 @@ fn find_false_pair(
 fn races_lost(
     script: &Script,
     transcript: &Transcript,
-    call: CallName,
+    called: ClientCall,
     pairs: &[(u64, u64)],
 ) -> Option<Verdict>
     requires rising { points_rise transcript.now ≡ None }
-    ensures { result ≡ races_lost script.now transcript.now call pairs.now (option_and_then written_name (call_of script.now call)) }
+    ensures { result ≡ races_lost script.now transcript.now (Client called) pairs.now (option_and_then written_name (call_of script.now called)) }
 {
-    let Some(name) = name_written(script, call) else {
+    let call = CallName::Client(called);
+    let Some(name) = name_written(script, called) else {
         return Some(Verdict::BadCause {
             call,
             first: 0,

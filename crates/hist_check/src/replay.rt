@@ -9,7 +9,7 @@ use crate::replies::{copy_shown, shows_reply};
 use hist_rules::Verdict;
 use hist_tables::call_of;
 use std::alloc::AllocError;
-use store_map::{HLine, ObjectMap, Reply, Script};
+use store_map::{CallName, HLine, ObjectMap, Reply, Script};
 
 // Whether the line shows the map's reply.
 fn reply_matches(script: &Script, line: &HLine, reply: Reply) -> Result<Option<Verdict>, AllocError>
@@ -19,7 +19,7 @@ fn reply_matches(script: &Script, line: &HLine, reply: Reply) -> Result<Option<V
         return Ok(None);
     }
     Ok(Some(Verdict::Differs {
-        call: line.call,
+        call: CallName::Client(line.call),
         expected: reply,
         got: copy_shown(&line.reply)?,
     }))

@@ -1,5 +1,6 @@
 //! The rule on what rebuilds' results name: a change of the object, the stripe, the server's downs.
 ghost use Rattle.std.specs.Prelude.{◌≡◌, None, IfOk, option_and_then};
+ghost use Rattle.store_map.specs.declared.call_name.CallName.TheVariants.{Repairer};
 ghost use Rattle.hist_rules.specs.Calls.{rebuild_of};
 ghost use Rattle.hist_rules.specs.PointsRise.{points_rise};
 ghost use Rattle.hist_rules.specs.CausesNamed.{result_named, causes_named};
@@ -10,7 +11,7 @@ use hist_losses::{blame_unless, downs_fit};
 use hist_rules::Verdict;
 use hist_tables::{OperatorCounts, rebuild_of};
 use std::alloc::{AllocError, Global};
-use store_map::{RLine, Rebuild, RepairResult, Script, Transcript};
+use store_map::{CallName, RLine, Rebuild, RepairResult, Script, Transcript};
 
 // Whether a rebuild's result names its own object, stripe and server.
 fn result_named(
@@ -22,9 +23,9 @@ fn result_named(
 ) -> Option<Verdict>
     requires rising { points_rise transcript.now ≡ None }
     requires downs { AreDowns script.now counted.now }
-    ensures { result ≡ result_named script.now transcript.now line.now.call line.now.result rebuild.now }
+    ensures { result ≡ result_named script.now transcript.now (Repairer line.now.call) line.now.result rebuild.now }
 {
-    let call = line.call;
+    let call = CallName::Repairer(line.call);
     match &line.result {
         RepairResult::Superseded { newer } => {
             let is_change = is_change_point(script, transcript, &rebuild.name, *newer);
@@ -50,7 +51,7 @@ fn line_named(
 ) -> Option<Verdict>
     requires rising { points_rise transcript.now ≡ None }
     requires downs { AreDowns script.now counted.now }
-    ensures { result ≡ option_and_then (result_named script.now transcript.now line.now.call line.now.result) (rebuild_of script.now line.now.call) }
+    ensures { result ≡ option_and_then (result_named script.now transcript.now (Repairer line.now.call) line.now.result) (rebuild_of script.now line.now.call) }
 {
     let rebuild = rebuild_of(script, line.call)?;
     result_named(script, transcript, counted, line, rebuild)

@@ -10,6 +10,7 @@ use Rattle.std.specs.Option.{option_or}
 use Rattle.std.specs.List.{flat_map, list_any}
 use Rattle.std.proofs.lemmas.List.{reverse-append}
 use Rattle.std.proofs.lemmas.List.Folds.{list_any-append}
+use Rattle.store_map.specs.declared.call_name.CallName.TheVariants.{Client, Repairer}
 use Rattle.store_map.specs.declared.cause.Triple.{Triple}
 use Rattle.hist_rules.specs.MissingChunk.{names_server}
 use Rattle.store_map.specs.declared.script.Script.{Script}
@@ -61,5 +62,5 @@ named_before server (triple ∷ triples) =
 -- the rule on lost chunks, of the lines of each kind
 pub lost_by_lines : (script : Script) (t : Transcript) → lost_chunks script t ≡ option_or (first_fault (refusal_for_loss script) t.refused) (first_fault (result_for_loss script) t.repairs)
 lost_by_lines script t =
-    first_fault-append (chunks_lost script) (flat_map (λ line. missing_of_cause line.call line.cause) t.refused) (flat_map (λ line. missing_of_result line.call line.result) t.repairs)
-    ∙ (λ i. option_or (first_fault-flat_map (chunks_lost script) (λ line. missing_of_cause line.call line.cause) t.refused i) (first_fault-flat_map (chunks_lost script) (λ line. missing_of_result line.call line.result) t.repairs i))
+    first_fault-append (chunks_lost script) (flat_map (λ line. missing_of_cause (Client line.call) line.cause) t.refused) (flat_map (λ line. missing_of_result (Repairer line.call) line.result) t.repairs)
+    ∙ (λ i. option_or (first_fault-flat_map (chunks_lost script) (λ line. missing_of_cause (Client line.call) line.cause) t.refused i) (first_fault-flat_map (chunks_lost script) (λ line. missing_of_result (Repairer line.call) line.result) t.repairs i))

@@ -48,11 +48,11 @@ fn may_lack_chunks(script: &Script, call: CallName) -> bool
     ensures { result ≡ may_lack_chunks script.now call }
 {
     match call {
-        CallName::Client { .. } => match call_of(script, call) {
+        CallName::Client(call) => match call_of(script, call) {
             Some(call) => asks_for_chunks(script.form, call),
             None => false,
         },
-        CallName::Repairer { .. } => true,
+        CallName::Repairer(_) => true,
     }
 }
 

@@ -8,7 +8,7 @@ ghost use Rattle.hist_losses.specs.Lines.{refusal_for_loss, result_for_loss};
 use crate::chunks::{Losses, chunks_lost};
 use hist_rules::Verdict;
 use std::alloc::{AllocError, Global};
-use store_map::{Cause, RLine, RepairResult, Script, Transcript, XLine};
+use store_map::{CallName, Cause, RLine, RepairResult, Script, Transcript, XLine};
 
 // Whether a client's call can have been unavailable, where its line says so.
 fn refusal_for_loss(script: &Script, losses: &Losses, line: &XLine) -> Option<Verdict>
@@ -17,7 +17,12 @@ fn refusal_for_loss(script: &Script, losses: &Losses, line: &XLine) -> Option<Ve
 {
     match &line.cause {
         Cause::Unavailable { missing, .. } => {
-            chunks_lost(script, losses, line.call, missing.as_slice())
+            chunks_lost(
+                script,
+                losses,
+                CallName::Client(line.call),
+                missing.as_slice(),
+            )
         }
         _ => None,
     }
@@ -30,7 +35,12 @@ fn result_for_loss(script: &Script, losses: &Losses, line: &RLine) -> Option<Ver
 {
     match &line.result {
         RepairResult::Unavailable { missing, .. } => {
-            chunks_lost(script, losses, line.call, missing.as_slice())
+            chunks_lost(
+                script,
+                losses,
+                CallName::Repairer(line.call),
+                missing.as_slice(),
+            )
         }
         _ => None,
     }

@@ -1,5 +1,6 @@
 use Rattle.std.proofs.Common.{sym, ap, ◌∙◌, Option}
 use Rattle.std.specs.Prelude.{option_and_then}
+use Rattle.store_map.specs.declared.call_name.CallName.TheVariants.{Repairer}
 use Rattle.hist_rules.specs.Calls.{rebuild_of}
 use Rattle.store_map.specs.declared.line.RLine.{RLine}
 use Rattle.hist_rules.specs.declared.verdict.Verdict.{Verdict}
@@ -11,7 +12,7 @@ use Rattle.hist_tables.proofs.Faults.{item_fits, item_found, no_fault}
 use Rattle.hist_check.proofs.results.find_false_result.Goals as goal
 
 abbrev rule : Script → Transcript → RLine → Option Verdict
-rule script t line = option_and_then (result_named script t line.call line.result) (rebuild_of script line.call)
+rule script t line = option_and_then (result_named script t (Repairer line.call) line.result) (rebuild_of script line.call)
 
 pub returns-in-Some : goal.returns-in-Some
 returns-in-Some c =
