@@ -20,7 +20,6 @@ ghost use Rattle.call_machine.specs.Kinds.{Asked, client_machine, machine_of, If
 ghost use Rattle.call_machine.specs.Calls.{first_call, drawn_by, owed_by, KnowsOldOf};
 ghost use Rattle.call_machine.specs.Ends.{IfBytesServed};
 
-use crate::ends::{of_client, of_rebuild};
 use call_steps::{Act, CallOutcome, DirectoryAnswer, Need, ServerAnswer};
 use chunk_server::Server;
 use clay_model::Coder;
@@ -270,19 +269,19 @@ impl<'a> CallMachine<'a> {
         match kind {
             Kind::Read(read) => {
                 let (seat, outcome, takes) = read.finish();
-                (seat, of_client(outcome), takes)
+                (seat, CallOutcome::Client(outcome), takes)
             }
             Kind::Put(put) => {
                 let (seat, outcome, takes) = put.finish();
-                (seat, of_client(outcome), takes)
+                (seat, CallOutcome::Client(outcome), takes)
             }
             Kind::Patch(patch) => {
                 let (seat, outcome, takes) = patch.finish();
-                (seat, of_client(outcome), takes)
+                (seat, CallOutcome::Client(outcome), takes)
             }
             Kind::Rebuild(rebuild) => {
                 let (seat, outcome, takes) = rebuild.finish();
-                (seat, of_rebuild(outcome), takes)
+                (seat, CallOutcome::Rebuild(outcome), takes)
             }
         }
     }

@@ -2,7 +2,6 @@
 #![tactic(auto)]
 
 mod call_machine;
-mod ends;
 pub mod laws;
 pub mod laws_of_owing;
 
