@@ -12,14 +12,21 @@ use Rattle.store_core.specs.History.{applied, is_answered}
 use Rattle.run_laws.specs.MapAfter.{map_by}
 use Rattle.call_steps.specs.CallOutcomes.{call_outcome_of}
 use Rattle.call_steps.specs.declared.outcome.CallOutcome.{CallOutcome}
-use Rattle.call_steps.specs.declared.outcome.CallOutcome.TheVariants as outcome
+use Rattle.call_steps.specs.declared.outcome.CallOutcome.TheVariants as ended
+use Rattle.call_steps.specs.declared.outcomes.Outcome.{Outcome}
+use Rattle.call_steps.specs.declared.outcomes.Outcome.TheVariants as outcome
 use Rattle.call_steps.specs.declared.caller_calls.EndedCall.{EndedCall}
 use Rattle.call_steps.specs.declared.caller_calls.CallerCalls.{CallerCalls}
 
--- the bytes of an outcome that has some
+-- the bytes of a client's end that has some
+abbrev pub bytes_of_client : Outcome → Option (List ℕ)
+bytes_of_client (outcome.Served point bytes) = Some bytes.items
+bytes_of_client other = None
+
+-- of an end of any call
 abbrev pub bytes_in : CallOutcome → Option (List ℕ)
-bytes_in (outcome.Served point bytes) = Some bytes.items
-bytes_in other = None
+bytes_in (ended.Client outcome) = bytes_of_client outcome
+bytes_in (ended.Rebuild outcome) = None
 
 -- a client's call that has ended
 abbrev pub ended_at : List CallerCalls → ℕ → ℕ → Option EndedCall

@@ -6,10 +6,15 @@ use Rattle.std.proofs.Math.ListN.{set}
 use Rattle.store_core.specs.Act.{Outcome as CoreOutcome}
 use Rattle.call_steps.specs.CallOutcomes.{call_outcome_of}
 use Rattle.call_steps.specs.declared.outcome.CallOutcome.{CallOutcome}
-use Rattle.call_steps.specs.declared.outcome.CallOutcome.TheVariants as outcome
+use Rattle.call_steps.specs.declared.outcome.CallOutcome.TheVariants as ended
+use Rattle.call_steps.specs.declared.outcomes.Outcome.{Outcome}
+use Rattle.call_steps.specs.declared.outcomes.Outcome.TheVariants as outcome
+use Rattle.call_steps.specs.declared.outcomes.RepairOutcome.{RepairOutcome}
+use Rattle.call_steps.specs.declared.outcomes.RepairOutcome.TheVariants as repair
+use Rattle.call_steps.specs.Outcomes.{outcome_of, repair_outcome_of}
 use Rattle.call_steps.specs.declared.caller_calls.EndedCall.{EndedCall}
 use Rattle.call_steps.specs.declared.caller_calls.CallerCalls.{CallerCalls}
-use Rattle.world_laws.specs.Served.{bytes_in, outcome_in, served_in, ended_at}
+use Rattle.world_laws.specs.Served.{bytes_in, bytes_of_client, outcome_in, served_in, ended_at}
 use Rattle.world_lines.specs.Taken.{KeepsCall}
 
 -- one item of a list is set: another is as it was, and this one is the new one
@@ -30,16 +35,35 @@ NotServed : CoreOutcome → Type 0
 NotServed (CoreOutcome.Served point) = ⊥
 NotServed other = ⊤
 
-unserved : (o : CallOutcome) (core : CoreOutcome) → call_outcome_of o ≡ core → NotServed core → bytes_in o ≡ None
+unserved_client : (o : Outcome) (core : CoreOutcome) → outcome_of o ≡ core → NotServed core → bytes_of_client o ≡ None
 unfolding NotServed
-unserved (outcome.Served point bytes) core e not = absurd (subst NotServed (sym e) not)
-unserved other core e not = refl
+unserved_client (outcome.Served point bytes) core e not = absurd (subst NotServed (sym e) not)
+unserved_client other core e not = refl
+
+unserved : (o : CallOutcome) (core : CoreOutcome) → call_outcome_of o ≡ core → NotServed core → bytes_in o ≡ None
+unserved (ended.Client o) core e not = unserved_client o core e not
+unserved (ended.Rebuild o) core e not = refl
+
+rebuild_unserved : (o : RepairOutcome) → NotServed (repair_outcome_of o)
+unfolding NotServed
+rebuild_unserved repair.Rebuilt = tt
+rebuild_unserved repair.Here = tt
+rebuild_unserved (repair.Away downs) = tt
+rebuild_unserved repair.NoSuch = tt
+rebuild_unserved (repair.Superseded newer) = tt
+rebuild_unserved (repair.Unavailable stripe missing) = tt
+rebuild_unserved (repair.Reaped at) = tt
+rebuild_unserved repair.NoMemory = tt
 
 -- bytes that are other than they were were there
-bytes_kept : (x y : CallOutcome) → call_outcome_of y ≡ call_outcome_of x → (bytes_in y ≡ bytes_in x) ⊎ ((bytes : List ℕ) × (bytes_in x ≡ Some bytes))
+client_kept : (x : Outcome) (y : CallOutcome) → call_outcome_of y ≡ outcome_of x → (bytes_in y ≡ bytes_of_client x) ⊎ ((bytes : List ℕ) × (bytes_of_client x ≡ Some bytes))
 unfolding NotServed
-bytes_kept (outcome.Served point bytes) y e = inr (bytes.items, refl)
-bytes_kept other y e = inl (unserved y _ e tt)
+client_kept (outcome.Served point bytes) y e = inr (bytes.items, refl)
+client_kept other y e = inl (unserved y _ e tt)
+
+bytes_kept : (x y : CallOutcome) → call_outcome_of y ≡ call_outcome_of x → (bytes_in y ≡ bytes_in x) ⊎ ((bytes : List ℕ) × (bytes_in x ≡ Some bytes))
+bytes_kept (ended.Client x) y e = client_kept x y e
+bytes_kept (ended.Rebuild x) y e = inl (unserved y _ e (rebuild_unserved x))
 
 -- ---- calls
 -- the same call

@@ -17,13 +17,18 @@ use Rattle.store_core.specs.Directory.{Event, Point}
 use Rattle.store_core.specs.History.{applied, is_answered, is_answer, shown_at, name_of, line_of, history_from}
 use Rattle.run_laws.specs.MapAfter.{map_by}
 use Rattle.call_steps.specs.declared.outcome.CallOutcome.{CallOutcome}
-use Rattle.call_steps.specs.declared.outcome.CallOutcome.TheVariants as outcome
+use Rattle.call_steps.specs.declared.outcome.CallOutcome.TheVariants as ended
+use Rattle.call_steps.specs.declared.outcomes.Outcome.{Outcome}
+use Rattle.call_steps.specs.declared.outcomes.Outcome.TheVariants as outcome
+use Rattle.call_steps.specs.declared.outcomes.RepairOutcome.{RepairOutcome}
+use Rattle.call_steps.specs.declared.outcomes.RepairOutcome.TheVariants as repair
+use Rattle.call_steps.specs.Outcomes.{outcome_of, repair_outcome_of}
 use Rattle.call_steps.specs.CallOutcomes.{call_outcome_of}
 use Rattle.call_steps.specs.declared.caller_calls.EndedCall.{EndedCall}
 use Rattle.call_steps.specs.declared.caller_calls.CallerCalls.{CallerCalls}
 use Rattle.call_steps.specs.CallerCalls.{ended_of, calling_at}
 use Rattle.world_lines.specs.Lists.{answered_by}
-use Rattle.world_laws.specs.Served.{bytes_in, ended_at, outcome_in, served_in, outcome_at, bytes_at, bytes_of, is_reply, answered_at, ServedAre}
+use Rattle.world_laws.specs.Served.{bytes_in, bytes_of_client, ended_at, outcome_in, served_in, outcome_at, bytes_at, bytes_of, is_reply, answered_at, ServedAre}
 use Rattle.world_lines.specs.Taken.{shown_by, KeepsCall}
 
 -- ---- one point more
@@ -65,10 +70,25 @@ Matches : Option CoreOutcome → Option (List ℕ) → Type 0
 Matches (Some (CoreOutcome.Served point)) served = (bytes : List ℕ) × (served ≡ Some bytes)
 Matches other served = served ≡ None
 
-outcome_matches : (o : CallOutcome) → Matches (Some (call_outcome_of o)) (bytes_in o)
+client_matches : (o : Outcome) → Matches (Some (outcome_of o)) (bytes_of_client o)
 unfolding Matches
-outcome_matches (outcome.Served point bytes) = (bytes.items, refl)
-outcome_matches other = refl
+client_matches (outcome.Served point bytes) = (bytes.items, refl)
+client_matches other = refl
+
+rebuild_matches : (o : RepairOutcome) → Matches (Some (repair_outcome_of o)) None
+unfolding Matches
+rebuild_matches repair.Rebuilt = refl
+rebuild_matches repair.Here = refl
+rebuild_matches (repair.Away downs) = refl
+rebuild_matches repair.NoSuch = refl
+rebuild_matches (repair.Superseded newer) = refl
+rebuild_matches (repair.Unavailable stripe missing) = refl
+rebuild_matches (repair.Reaped at) = refl
+rebuild_matches repair.NoMemory = refl
+
+outcome_matches : (o : CallOutcome) → Matches (Some (call_outcome_of o)) (bytes_in o)
+outcome_matches (ended.Client o) = client_matches o
+outcome_matches (ended.Rebuild o) = rebuild_matches o
 
 call_matches : (found : Option EndedCall) → Matches (outcome_in found) (served_in found)
 unfolding Matches

@@ -4,7 +4,7 @@ ghost use Rattle.store_core.specs.Outcomes.{triple_of, cause_of, result_of};
 ghost use Rattle.store_core.specs.Told.{lost_in};
 ghost use Rattle.call_steps.specs.CallOutcomes.{call_outcome_of};
 
-use call_steps::{CallOutcome, Change};
+use call_steps::{CallOutcome, Change, Outcome, RepairOutcome};
 use std::alloc::{AllocError, Global};
 use store_map::{Cause, ListOf, LostChunk, RepairResult, Triple};
 
@@ -37,15 +37,22 @@ pub(crate) fn cause_of(alloc: Global, outcome: &CallOutcome) -> Result<Option<Ca
     ensures { IfOk result (λ cause. cause ≡ cause_of (call_outcome_of outcome.now)) }
 {
     match outcome {
-        CallOutcome::Unavailable { stripe, missing } => Ok(Some(Cause::Unavailable {
-            stripe: u64::from(*stripe),
-            missing: triples(alloc, missing)?,
-        })),
-        CallOutcome::Contended { changes } => Ok(Some(Cause::Contended {
+        CallOutcome::Client(Outcome::Unavailable { stripe, missing })
+        | CallOutcome::Rebuild(RepairOutcome::Unavailable { stripe, missing }) => Ok(Some(
+            Cause::Unavailable {
+                stripe: u64::from(*stripe),
+                missing: triples(alloc, missing)?,
+            },
+        )),
+        CallOutcome::Client(Outcome::Contended { changes }) => Ok(Some(Cause::Contended {
             pairs: pairs(alloc, changes)?,
         })),
-        CallOutcome::Reaped { at } => Ok(Some(Cause::Reaped { at: at.0 })),
-        CallOutcome::NoMemory => Ok(Some(Cause::NoMemory)),
+        CallOutcome::Client(Outcome::Reaped { at })
+        | CallOutcome::Rebuild(RepairOutcome::Reaped { at }) => Ok(Some(Cause::Reaped {
+            at: at.0,
+        })),
+        CallOutcome::Client(Outcome::NoMemory) | CallOutcome::Rebuild(RepairOutcome::NoMemory) =>
+            Ok(Some(Cause::NoMemory)),
         _ => Ok(None),
     }
 }
@@ -58,19 +65,28 @@ pub(crate) fn result_of(
     ensures { IfOk result (λ shown. shown ≡ result_of (call_outcome_of outcome.now)) }
 {
     match outcome {
-        CallOutcome::Rebuilt => Ok(Some(RepairResult::Rebuilt)),
-        CallOutcome::Here => Ok(Some(RepairResult::Here)),
-        CallOutcome::Away { downs } => Ok(Some(RepairResult::Away { downs: *downs })),
-        CallOutcome::NoSuch => Ok(Some(RepairResult::NoSuch)),
-        CallOutcome::Superseded { newer } => {
+        CallOutcome::Rebuild(RepairOutcome::Rebuilt) => Ok(Some(RepairResult::Rebuilt)),
+        CallOutcome::Rebuild(RepairOutcome::Here) => Ok(Some(RepairResult::Here)),
+        CallOutcome::Rebuild(RepairOutcome::Away { downs }) => Ok(Some(RepairResult::Away {
+            downs: *downs,
+        })),
+        CallOutcome::Rebuild(RepairOutcome::NoSuch) => Ok(Some(RepairResult::NoSuch)),
+        CallOutcome::Rebuild(RepairOutcome::Superseded { newer }) => {
             Ok(Some(RepairResult::Superseded { newer: newer.0 }))
         }
-        CallOutcome::Unavailable { stripe, missing } => Ok(Some(RepairResult::Unavailable {
-            stripe: u64::from(*stripe),
-            missing: triples(alloc, missing)?,
+        CallOutcome::Client(Outcome::Unavailable { stripe, missing })
+        | CallOutcome::Rebuild(RepairOutcome::Unavailable { stripe, missing }) => Ok(Some(
+            RepairResult::Unavailable {
+                stripe: u64::from(*stripe),
+                missing: triples(alloc, missing)?,
+            },
+        )),
+        CallOutcome::Client(Outcome::Reaped { at })
+        | CallOutcome::Rebuild(RepairOutcome::Reaped { at }) => Ok(Some(RepairResult::Reaped {
+            at: at.0,
         })),
-        CallOutcome::Reaped { at } => Ok(Some(RepairResult::Reaped { at: at.0 })),
-        CallOutcome::NoMemory => Ok(Some(RepairResult::NoMemory)),
+        CallOutcome::Client(Outcome::NoMemory) | CallOutcome::Rebuild(RepairOutcome::NoMemory) =>
+            Ok(Some(RepairResult::NoMemory)),
         _ => Ok(None),
     }
 }

@@ -5,7 +5,7 @@ ghost use Rattle.call_steps.specs.CallOutcomes.{call_outcome_of};
 ghost use Rattle.world_laws.specs.Served.{bytes_in, served_in, answered_at, outcome_at, bytes_at};
 ghost use Rattle.world_lines.specs.Taken.{KeepsCall, KeepsEachCall};
 
-use call_steps::{CallOutcome, CallerCalls, EndedCall};
+use call_steps::{CallOutcome, CallerCalls, EndedCall, Outcome};
 use std::alloc::Global;
 use std::mem;
 use store_map::{Actor, ByteList, ListOf};
@@ -16,7 +16,7 @@ fn is_reply(outcome: &CallOutcome) -> bool
 {
     matches!(
         outcome,
-        CallOutcome::Answered { .. } | CallOutcome::Served { .. }
+        CallOutcome::Client(Outcome::Answered { .. } | Outcome::Served { .. })
     )
 }
 
@@ -48,7 +48,7 @@ fn take_bytes(alloc: Global, outcome: &mut CallOutcome) -> Option<ByteList>
     ensures same { call_outcome_of outcome.new ≡ call_outcome_of outcome.old }
 {
     match outcome {
-        CallOutcome::Served { bytes, .. } => {
+        CallOutcome::Client(Outcome::Served { bytes, .. }) => {
             Some(ListOf::from_vec(mem::replace(bytes, Vec::new(alloc))))
         }
         _ => None,
