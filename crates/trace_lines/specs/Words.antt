@@ -8,8 +8,7 @@ use Rattle.call_steps.specs.declared.act.DirectoryAct.{DirectoryAct}
 use Rattle.call_steps.specs.declared.act.DirectoryAct.TheVariants as there
 use Rattle.call_steps.specs.declared.act.ServerAct.{ServerAct}
 use Rattle.call_steps.specs.declared.act.ServerAct.TheVariants as here
-use Rattle.store_map.specs.declared.call_name.CallName.TheVariants as name
-use Rattle.store_map.specs.CallNames.{call_text}
+use Rattle.store_map.specs.CallNames.{client_text, repair_text}
 
 -- cI, rI, s or o
 abbrev pub actor_text : Actor → List ℕ
@@ -20,8 +19,8 @@ actor_text actor.Operator = codes "o"
 
 -- the call of this number: cI.N, rI.N, s or o
 abbrev pub caller_text : Actor → ℕ → List ℕ
-caller_text (actor.Client i) number = call_text (name.Client i number)
-caller_text (actor.Repairer i) number = call_text (name.Repairer i number)
+caller_text (actor.Client i) number = client_text (record { client = i; number = number })
+caller_text (actor.Repairer i) number = repair_text (record { repairer = i; number = number })
 caller_text actor.Sweeper number = codes "s"
 caller_text actor.Operator number = codes "o"
 

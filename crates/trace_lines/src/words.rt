@@ -4,7 +4,7 @@ ghost use Rattle.trace_lines.specs.Words.{actor_text, caller_text, shortage_text
 
 use call_steps::{Act, DirectoryAct, ServerAct};
 use std::alloc::AllocError;
-use store_map::{Actor, CallName};
+use store_map::{Actor, ClientCall, RepairCall};
 use transcript_text::append;
 
 /// Appends the actor's call of this number.
@@ -12,8 +12,8 @@ pub fn append_caller(out: &mut Vec<u8>, who: Actor, number: u32) -> Result<(), A
     ensures { OnOk result (out.new.items ≡ out.old.items ++ caller_text who number) }
 {
     match who {
-        Actor::Client(actor) => append(out, CallName::Client { actor, number }),
-        Actor::Repairer(actor) => append(out, CallName::Repairer { actor, number }),
+        Actor::Client(client) => append(out, ClientCall { client, number }),
+        Actor::Repairer(repairer) => append(out, RepairCall { repairer, number }),
         Actor::Sweeper => append(out, "s"),
         Actor::Operator => append(out, "o"),
     }
