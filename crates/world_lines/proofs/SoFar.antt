@@ -14,7 +14,7 @@ use Rattle.store_map.specs.declared.line.HLine.{HLine}
 use Rattle.store_core.specs.Act.{Outcome as CoreOutcome}
 use Rattle.store_core.specs.Calls.{Calls}
 use Rattle.store_core.specs.Directory.{Event, Point}
-use Rattle.store_core.specs.History.{applied, is_answered, is_answer, shown_at, name_of, line_of, history_from}
+use Rattle.store_core.specs.History.{applied, is_answered, is_answer, shown_at, client_call, line_of, history_from}
 use Rattle.run_laws.specs.MapAfter.{map_by}
 use Rattle.call_steps.specs.declared.outcome.CallOutcome.{CallOutcome}
 use Rattle.call_steps.specs.declared.outcome.CallOutcome.TheVariants as ended
@@ -36,7 +36,7 @@ module _ (max : ℕ) (calls : Calls) (answered : Actor → ℕ → Bool) where
   -- what a point shows over the map there
   abbrev line_at : ℕ → Objects → Point → List HLine
   line_at place objects point =
-      line_of place (name_of point.actor point.number) (shown_at point.event (answered point.actor point.number) (applied max objects point.event (calls point.actor point.number)).1)
+      line_of place (client_call point.actor point.number) (shown_at point.event (answered point.actor point.number) (applied max objects point.event (calls point.actor point.number)).1)
 
   -- the map after some points
   abbrev map_from : Objects → List Point → Objects
@@ -218,14 +218,14 @@ module _ (max : ℕ) (calls : Calls) (servers : ℕ) (points : List Point) (firs
         (place, first_was ∙ ap Some here, omega arith)
 
     pub next_so_far : (lines' : List HLine)
-        → lines' ≡ lines ++ line_of place (name_of point.actor point.number) (shown_by point.event (answered_at now point.actor point.number) (bytes_of now point.actor point.number))
+        → lines' ≡ lines ++ line_of place (client_call point.actor point.number) (shown_by point.event (answered_at now point.actor point.number) (bytes_of now point.actor point.number))
         → SoFar max calls servers points first next (place + 1) lines'
     next_so_far lines' one =
         record {
           so_far =
               one
-              ∙ ap (λ s. lines ++ line_of place (name_of point.actor point.number) s) (by_event point.event refl)
-              ∙ ap (λ l. l ++ line_of place (name_of point.actor point.number) (shown_at point.event (answered_by (map (calling_at servers) first) point.actor point.number) (applied max (map_by calls max (take place points)) point.event (calls point.actor point.number)).1)) so.so_far
+              ∙ ap (λ s. lines ++ line_of place (client_call point.actor point.number) s) (by_event point.event refl)
+              ∙ ap (λ l. l ++ line_of place (client_call point.actor point.number) (shown_at point.event (answered_by (map (calling_at servers) first) point.actor point.number) (applied max (map_by calls max (take place points)) point.event (calls point.actor point.number)).1)) so.so_far
               ∙ sym (history_next max calls (answered_by (map (calling_at servers) first)) points place point found);
           outcomes = λ i n. (kept i n).outcome ∙ so.outcomes i n;
           bytes = λ i n.
@@ -243,7 +243,7 @@ module _ (max : ℕ) (calls : Calls) (servers : ℕ) (points : List Point) (firs
 pub told_so_far : (max : ℕ) (calls : Calls) (servers : ℕ) (points : List Point) (first : List CallerCalls) → ServedAre max calls points first
     → (place : ℕ) (told : Actor × ℕ × Event) → Some told ≡ option_map (λ point. (point.actor, point.number, point.event)) (slice_get points place)
     → (now next : List CallerCalls) → ((i n : ℕ) → KeepsCall ((told.0 ≡ actor.Client i) × (n ≡ told.1) × (told.2 ≡ Event.Pinned)) (ended_at now i n) (ended_at next i n))
-    → (lines lines' : List HLine) → lines' ≡ lines ++ line_of place (name_of told.0 told.1) (shown_by told.2 (answered_at now told.0 told.1) (bytes_of now told.0 told.1))
+    → (lines lines' : List HLine) → lines' ≡ lines ++ line_of place (client_call told.0 told.1) (shown_by told.2 (answered_at now told.0 told.1) (bytes_of now told.0 told.1))
     → SoFar max calls servers points first now place lines → SoFar max calls servers points first next (place + 1) lines'
 told_so_far max calls servers points first served place told is now next kept lines lines' one so = by_point (slice_get points place) refl is
   where
@@ -253,7 +253,7 @@ told_so_far max calls servers points first served place told is now next kept li
     by_point (Some point) e h =
         let same : told ≡ (point.actor, point.number, point.event) = cc in
         let Kept : Actor × ℕ × Event → Type 0 = λ t. (i n : ℕ) → KeepsCall ((t.0 ≡ actor.Client i) × (n ≡ t.1) × (t.2 ≡ Event.Pinned)) (ended_at now i n) (ended_at next i n) in
-        let One : Actor × ℕ × Event → Type 0 = λ t. lines' ≡ lines ++ line_of place (name_of t.0 t.1) (shown_by t.2 (answered_at now t.0 t.1) (bytes_of now t.0 t.1)) in
+        let One : Actor × ℕ × Event → Type 0 = λ t. lines' ≡ lines ++ line_of place (client_call t.0 t.1) (shown_by t.2 (answered_at now t.0 t.1) (bytes_of now t.0 t.1)) in
         next_so_far max calls servers points first served place point e now lines so next (subst Kept same kept) lines' (subst One same one)
 
 -- at the end they are those of all points

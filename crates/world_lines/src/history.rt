@@ -3,7 +3,7 @@ ghost use Rattle.std.specs.Prelude.{◌≡◌, ℕ, [], ◌++◌, Some, is_some,
 ghost use Rattle.store_map.specs.declared.actor.Actor.TheVariants as kind;
 ghost use Rattle.store_core.specs.Calls.{Calls};
 ghost use Rattle.store_core.specs.Directory.{Event as CoreEvent};
-ghost use Rattle.store_core.specs.History.{name_of, line_of, history_from};
+ghost use Rattle.store_core.specs.History.{client_call, line_of, history_from};
 ghost use Rattle.dir_parts.specs.Events.{event_in};
 ghost use Rattle.call_steps.specs.CallerCalls.{callings_at};
 ghost use Rattle.world_lines.specs.Lists.{answered_by};
@@ -14,18 +14,16 @@ use crate::served::{is_answered, take_served};
 use call_steps::CallerCalls;
 use dir_parts::{Event, PointEntry};
 use std::alloc::{AllocError, Global};
-use store_map::{Actor, CallName, HLine, ListOf, Reply, Shown};
+use store_map::{Actor, ClientCall, HLine, ListOf, Reply, Shown};
 use stripe_dir::Directory;
 
-// How a call is named; the sweeper and the operator have none.
-fn name_of(actor: Actor, number: u32) -> Option<CallName>
-    ensures { result ≡ name_of actor number }
+// A client's call; the points of other actors show none.
+fn client_call(actor: Actor, number: u32) -> Option<ClientCall>
+    ensures { result ≡ client_call actor number }
 {
     match actor {
-        Actor::Client(actor) => Some(CallName::Client { actor, number }),
-        Actor::Repairer(actor) => Some(CallName::Repairer { actor, number }),
-        Actor::Sweeper => None,
-        Actor::Operator => None,
+        Actor::Client(client) => Some(ClientCall { client, number }),
+        Actor::Repairer(_) | Actor::Sweeper | Actor::Operator => None,
     }
 }
 
@@ -78,11 +76,11 @@ fn push_point(
     point: u64,
     entry: PointEntry,
 ) -> Result<(), AllocError>
-    ensures lines { OnOk result (lines.new ≡ lines.old ++ line_of point (name_of entry.actor entry.number)
+    ensures lines { OnOk result (lines.new ≡ lines.old ++ line_of point (client_call entry.actor entry.number)
         (shown_call clients.old (event_in entry.event) entry.actor entry.number)) }
     ensures others { KeepsEachCall (IsPinnedCall entry) clients.old clients.new }
 {
-    let Some(call) = name_of(entry.actor, entry.number) else {
+    let Some(call) = client_call(entry.actor, entry.number) else {
         return Ok(());
     };
     let Some(reply) = shown_at(alloc, clients, entry) else {

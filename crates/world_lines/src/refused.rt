@@ -1,6 +1,5 @@
 //! The `X` lines of calls that were refused, and the `R` lines of rebuilds.
 ghost use Rattle.std.specs.Prelude.{◌≡◌, ℕ, ◌^◌, ◌<◌, ◌++◌, length, IfOk, OnOk};
-ghost use Rattle.store_map.specs.declared.call_name.CallName.TheVariants as name;
 ghost use Rattle.store_core.specs.Outcomes.{cause_of, result_of};
 ghost use Rattle.store_core.specs.Shown.{lines_of_ended, refused_line, repair_line};
 ghost use Rattle.call_steps.specs.CallOutcomes.{call_outcome_of};
@@ -10,13 +9,13 @@ ghost use Rattle.world_lines.specs.Lists.{refused_lines, repair_lines};
 use crate::causes::{cause_of, result_of};
 use call_steps::{CallOutcome, CallerCalls};
 use std::alloc::{AllocError, Global};
-use store_map::{CallName, ListOf, RLine, XLine};
+use store_map::{ClientCall, ListOf, RLine, RepairCall, XLine};
 
 // The line of a client's call, if it was refused.
 fn push_refused(
     alloc: Global,
     lines: &mut ListOf<XLine>,
-    call: CallName,
+    call: ClientCall,
     outcome: &CallOutcome,
 ) -> Result<(), AllocError>
     ensures { OnOk result (lines.new ≡ lines.old ++ refused_line call (cause_of (call_outcome_of outcome.now))) }
@@ -37,11 +36,11 @@ fn push_client(
 ) -> Result<(), AllocError>
     requires { length client.now.ended.items < 2 ^ 32 }
     ensures { OnOk result ((servers : ℕ) → lines.new ≡ lines.old
-        ++ lines_of_ended (λ number ended. refused_line (name.Client actor number) (cause_of ended.outcome)) (calling_at servers client.now)) }
+        ++ lines_of_ended (λ number ended. refused_line (record { client = actor; number = number }) (cause_of ended.outcome)) (calling_at servers client.now)) }
 {
     for (number, ended) in client.ended.iter().enumerate() {
-        let call = CallName::Client {
-            actor,
+        let call = ClientCall {
+            client: actor,
             number: number as u32,
         };
         push_refused(alloc, lines, call, &ended.outcome)?;
@@ -66,7 +65,7 @@ pub fn refused_lines(alloc: Global, clients: &[CallerCalls]) -> Result<ListOf<XL
 fn push_repair(
     alloc: Global,
     lines: &mut ListOf<RLine>,
-    call: CallName,
+    call: RepairCall,
     outcome: &CallOutcome,
 ) -> Result<(), AllocError>
     ensures { OnOk result (lines.new ≡ lines.old ++ repair_line call (result_of (call_outcome_of outcome.now))) }
@@ -87,11 +86,11 @@ fn push_repairer(
 ) -> Result<(), AllocError>
     requires { length repairer.now.ended.items < 2 ^ 32 }
     ensures { OnOk result ((servers : ℕ) → lines.new ≡ lines.old
-        ++ lines_of_ended (λ number ended. repair_line (name.Repairer actor number) (result_of ended.outcome)) (calling_at servers repairer.now)) }
+        ++ lines_of_ended (λ number ended. repair_line (record { repairer = actor; number = number }) (result_of ended.outcome)) (calling_at servers repairer.now)) }
 {
     for (number, ended) in repairer.ended.iter().enumerate() {
-        let call = CallName::Repairer {
-            actor,
+        let call = RepairCall {
+            repairer: actor,
             number: number as u32,
         };
         push_repair(alloc, lines, call, &ended.outcome)?;

@@ -2,7 +2,7 @@
 ghost use Rattle.std.specs.Prelude.{◌≡◌};
 ghost use Rattle.world_lines.specs.Names.{name_by};
 
-use store_map::CallName;
+use store_map::{CallName, ClientCall, RepairCall};
 
 /// Whose calls they are: a script's clients' or its repairers'.
 #[derive(Clone, Copy, PartialEq, Eq)]
@@ -17,8 +17,14 @@ impl Role {
         ensures { result ≡ name_by self actor number }
     {
         match self {
-            Role::Client => CallName::Client { actor, number },
-            Role::Repairer => CallName::Repairer { actor, number },
+            Role::Client => CallName::Client(ClientCall {
+                client: actor,
+                number,
+            }),
+            Role::Repairer => CallName::Repairer(RepairCall {
+                repairer: actor,
+                number,
+            }),
         }
     }
 }

@@ -1,4 +1,3 @@
-use Rattle.store_map.specs.declared.call_name.CallName.TheVariants as name
 use Rattle.store_core.specs.Outcomes.{cause_of}
 use Rattle.store_core.specs.Shown.{refused_line}
 use Rattle.call_steps.specs.CallerCalls.{ended_of}
@@ -7,6 +6,6 @@ use Rattle.world_lines.proofs.refused.push_client.Goals as goal
 
 pub loop-number-preserved : goal.loop-number-preserved
 loop-number-preserved c = λ servers.
-    lines_more_of (ended_of servers) (λ number ended. refused_line (name.Client c.args.actor number) (cause_of ended.outcome)) c.args.lines.now c.loop-number.lines c.push_refused.new.lines
+    lines_more_of (ended_of servers) (λ number ended. refused_line (record { client = c.args.actor; number = number }) (cause_of ended.outcome)) c.args.lines.now c.loop-number.lines c.push_refused.new.lines
     c.args.client.now.ended.items c.deref-ended-items.result.now c.loop-number.number c.ended-item.result c.deref-ended-items.ensures.value c.loop-number-test.true c.ended-item.is
     (c.loop-number.invariant servers) c.in_ok-push_refused.ensures

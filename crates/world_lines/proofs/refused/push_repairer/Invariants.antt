@@ -1,5 +1,4 @@
 use Rattle.std.proofs.Common.{◌≡◌, ℕ, ◌++◌, take}
-use Rattle.store_map.specs.declared.call_name.CallName.TheVariants as name
 use Rattle.store_core.specs.Outcomes.{result_of}
 use Rattle.store_core.specs.Shown.{repair_line}
 use Rattle.call_steps.specs.CallerCalls.{ended_of}
@@ -8,4 +7,4 @@ use Rattle.world_lines.proofs.refused.push_repairer.Given as goal
 
 abbrev pub invariant-loop-number : goal.invariant-loop-number
 invariant-loop-number l =
-    (servers : ℕ) → l.lines ≡ l.initial.lines ++ lines_of (ended_of servers) (λ number ended. repair_line (name.Repairer l.fn.actor number) (result_of ended.outcome)) (take l.number l.repairer.ended.items)
+    (servers : ℕ) → l.lines ≡ l.initial.lines ++ lines_of (ended_of servers) (λ number ended. repair_line (record { repairer = l.fn.actor; number = number }) (result_of ended.outcome)) (take l.number l.repairer.ended.items)

@@ -1,5 +1,4 @@
 use Rattle.std.proofs.Common.{◌≡◌, ℕ, ◌++◌, [], take}
-use Rattle.store_map.specs.declared.call_name.CallName.TheVariants as name
 use Rattle.store_core.specs.Outcomes.{cause_of}
 use Rattle.store_core.specs.Shown.{lines_of_ended, refused_line}
 use Rattle.call_steps.specs.CallerCalls.{calling_at}
@@ -8,4 +7,4 @@ use Rattle.world_lines.proofs.refused.refused_lines.Given as goal
 
 abbrev pub invariant-loop-i : goal.invariant-loop-i
 invariant-loop-i l =
-    (servers : ℕ) → l.lines ≡ [] ++ lines_of (calling_at servers) (λ i. lines_of_ended (λ number ended. refused_line (name.Client i number) (cause_of ended.outcome))) (take l.i l.clients)
+    (servers : ℕ) → l.lines ≡ [] ++ lines_of (calling_at servers) (λ i. lines_of_ended (λ number ended. refused_line (record { client = i; number = number }) (cause_of ended.outcome))) (take l.i l.clients)

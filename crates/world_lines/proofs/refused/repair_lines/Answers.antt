@@ -1,5 +1,4 @@
 use Rattle.std.proofs.Common.{[], length}
-use Rattle.store_map.specs.declared.call_name.CallName.TheVariants as name
 use Rattle.store_core.specs.Outcomes.{result_of}
 use Rattle.store_core.specs.Shown.{lines_of_ended, repair_line}
 use Rattle.call_steps.specs.CallerCalls.{calling_at}
@@ -12,6 +11,6 @@ push_repairer-requires c =
 
 pub loop-i-preserved : goal.loop-i-preserved
 loop-i-preserved c = λ servers.
-    lines_more (calling_at servers) (λ i. lines_of_ended (λ number ended. repair_line (name.Repairer i number) (result_of ended.outcome))) [] c.loop-i.lines c.push_repairer.new.lines
+    lines_more (calling_at servers) (λ i. lines_of_ended (λ number ended. repair_line (record { repairer = i; number = number }) (result_of ended.outcome))) [] c.loop-i.lines c.push_repairer.new.lines
     c.args.repairers.now c.loop-i.i c.index-repairers-i.result c.loop-i-test.true c.index-repairers-i.is
     (c.loop-i.invariant servers) (c.in_ok-push_repairer.ensures servers)

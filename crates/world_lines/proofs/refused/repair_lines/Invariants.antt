@@ -1,5 +1,4 @@
 use Rattle.std.proofs.Common.{◌≡◌, ℕ, ◌++◌, [], take}
-use Rattle.store_map.specs.declared.call_name.CallName.TheVariants as name
 use Rattle.store_core.specs.Outcomes.{result_of}
 use Rattle.store_core.specs.Shown.{lines_of_ended, repair_line}
 use Rattle.call_steps.specs.CallerCalls.{calling_at}
@@ -8,4 +7,4 @@ use Rattle.world_lines.proofs.refused.repair_lines.Given as goal
 
 abbrev pub invariant-loop-i : goal.invariant-loop-i
 invariant-loop-i l =
-    (servers : ℕ) → l.lines ≡ [] ++ lines_of (calling_at servers) (λ i. lines_of_ended (λ number ended. repair_line (name.Repairer i number) (result_of ended.outcome))) (take l.i l.repairers)
+    (servers : ℕ) → l.lines ≡ [] ++ lines_of (calling_at servers) (λ i. lines_of_ended (λ number ended. repair_line (record { repairer = i; number = number }) (result_of ended.outcome))) (take l.i l.repairers)
