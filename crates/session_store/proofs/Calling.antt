@@ -59,6 +59,7 @@ use Rattle.session_rules.proofs.Maps.{bytes_are_owed}
 use Rattle.session_rules.proofs.Clients.{of_client}
 use Rattle.session_rules.proofs.RunKept.{begins}
 use Rattle.call_steps.specs.declared.outcome.CallOutcome.TheVariants as ended
+use Rattle.call_steps.specs.declared.outcomes.Outcome.TheVariants as client
 use Rattle.store_core.specs.Lookups.{same_actor}
 use Rattle.session_rules.specs.Calls.{serve_call}
 use Rattle.session_store.specs.Answers.{AnswersCall}
@@ -82,7 +83,7 @@ use Rattle.session_store.specs.Sweeping.{HasSwept}
 use Rattle.session_store.proofs.Bounds.{steps_few}
 use Rattle.session_store.proofs.Knowing.{more, between_more, contents_more}
 use Rattle.session_store.proofs.Numbers.{known_now}
-use Rattle.session_store.specs.Answers.{EndsCall}
+use Rattle.session_store.specs.Ends.{EndsCall}
 use Rattle.session_store.proofs.Outcomes.{ends_call}
 use Rattle.session_store.proofs.Tries.{NoWrite, same_act, same_steps}
 
@@ -228,8 +229,8 @@ module _ (parts : Parts) (is : IsStore (store_of parts)) (written : Call) (seat 
           calls_are_answered (more (store_of parts) (asked_of written) s at) g (store_of parts).max 1 (seats_at parts.served) at.stands (seen_in parts.places) (seen_in now) s written (call_outcome_of outcome) is.wide (omega arith)
           (between_more (store_of parts) (asked_of written) s at) (known_now at.calls parts.served (asked_of written) 0) runs_to
 
-    pub ends_well : EndsCall outcome
-    ends_well = let its = is_answered is.state is.stands in ends_call outcome (length parts.places.directory.core.points) its.0.served.1 its.1
+    pub ends_well : EndsCall (call_outcome_of outcome)
+    ends_well = let its = is_answered is.state is.stands in ends_call (call_outcome_of outcome) (length parts.places.directory.core.points) its.0.served.1 its.1
 
     -- ---- what the call is served
     -- what its look owes
@@ -291,7 +292,7 @@ module _ (parts : Parts) (is : IsStore (store_of parts)) (written : Call) (seat 
           ∙ sym stamped ∙ sym (ap (λ (x : ℕ × List ℕ). x.1) one)
       among_by (inr none) place bytes given within is_given = absurd (none_contained (place, bytes) (subst (λ (l : List (ℕ × List ℕ)). Contains l (place, bytes)) none within))
 
-      pub served_bytes : IfReads (machine_of c.asked) (IfBytesServed outcome (λ bytes. bytes.items ≡ c.owed)) → (p : Point) (bytes : Vec ℕ Global) (given : List ℕ) → outcome ≡ ended.Served p bytes →
+      pub served_bytes : IfReads (machine_of c.asked) (IfBytesServed outcome (λ bytes. bytes.items ≡ c.owed)) → (p : Point) (bytes : Vec ℕ Global) (given : List ℕ) → outcome ≡ ended.Client (client.Served p bytes) →
           (apply (store_of parts).max written s.objects).1 ≡ reply.Bytes given → given ≡ bytes.items
       served_bytes served p bytes given is_served is_given =
           let owes : OwesBy (AreAmong (owed_by looked)) c = ran.owes (owed_by looked) look_owes in

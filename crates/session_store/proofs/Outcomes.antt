@@ -21,7 +21,10 @@ use Rattle.session_rules.specs.Outcomes.{lost_as, replied_at, outcome_at}
 use Rattle.call_steps.specs.CallOutcomes.{call_outcome_of}
 use Rattle.call_steps.specs.declared.outcome.CallOutcome.{CallOutcome}
 use Rattle.call_steps.specs.declared.outcome.CallOutcome.TheVariants as ended
-use Rattle.session_store.specs.Answers.{placed_epoch, found_epoch, missing_in, AnswersCall, EndsCall}
+use Rattle.call_steps.specs.declared.outcomes.Outcome.TheVariants as client
+use Rattle.call_steps.specs.declared.outcomes.RepairOutcome.TheVariants as repair
+use Rattle.session_store.specs.Answers.{placed_epoch, found_epoch, missing_in, AnswersCall}
+use Rattle.session_store.specs.Ends.{EndsCall}
 
 -- ---- a call of the map is replied, or its bytes are unavailable
 abbrev pub IsOfCall : Answer → State → State → Type 0
@@ -112,40 +115,50 @@ never e = absurd (true≢false (sym e))
 
 -- an outcome that stands for bytes, for another reply, for missing servers, for want of memory
 by_bytes : (outcome : CallOutcome) (point : ℕ) (given : List ℕ) (answer : Answer) → call_outcome_of outcome ≡ Outcome.Served point → AnswersCall outcome answer →
-    ((p : Point) (bytes : Vec ℕ Global) → outcome ≡ ended.Served p bytes → given ≡ bytes.items) → answer ≡ Answer.Replied (reply.Bytes given)
-by_bytes (ended.Served p bytes) point given answer e answers same = answers ∙ ap (λ b. Answer.Replied (reply.Bytes b)) (sym (same p bytes refl))
-by_bytes (ended.Answered p r) point given answer e answers same = never (ap is_served e)
-by_bytes (ended.Unavailable stripe missing) point given answer e answers same = never (ap is_served e)
-by_bytes ended.NoMemory point given answer e answers same = never (ap is_served e)
+    ((p : Point) (bytes : Vec ℕ Global) → outcome ≡ ended.Client (client.Served p bytes) → given ≡ bytes.items) → answer ≡ Answer.Replied (reply.Bytes given)
+by_bytes (ended.Client (client.Served p bytes)) point given answer e answers same = answers ∙ ap (λ b. Answer.Replied (reply.Bytes b)) (sym (same p bytes refl))
+by_bytes (ended.Client (client.Answered p r)) point given answer e answers same = never (ap is_served e)
+by_bytes (ended.Client (client.Unavailable stripe missing)) point given answer e answers same = never (ap is_served e)
+by_bytes (ended.Rebuild (repair.Unavailable stripe missing)) point given answer e answers same = never (ap is_served e)
+by_bytes (ended.Client client.NoMemory) point given answer e answers same = never (ap is_served e)
+by_bytes (ended.Rebuild repair.NoMemory) point given answer e answers same = never (ap is_served e)
 by_bytes outcome point given answer e answers same = absurd answers
 
 by_reply : (outcome : CallOutcome) (point : ℕ) (r : Reply) (answer : Answer) → call_outcome_of outcome ≡ Outcome.Answered point r → AnswersCall outcome answer → answer ≡ Answer.Replied r
-by_reply (ended.Answered p own) point r answer e answers = answers ∙ ap (λ x. Answer.Replied x) (ap (reply_in r) e)
-by_reply (ended.Served p bytes) point r answer e answers = never (ap is_answered e)
-by_reply (ended.Unavailable stripe missing) point r answer e answers = never (ap is_answered e)
-by_reply ended.NoMemory point r answer e answers = never (ap is_answered e)
+by_reply (ended.Client (client.Answered p own)) point r answer e answers = answers ∙ ap (λ x. Answer.Replied x) (ap (reply_in r) e)
+by_reply (ended.Client (client.Served p bytes)) point r answer e answers = never (ap is_answered e)
+by_reply (ended.Client (client.Unavailable stripe missing)) point r answer e answers = never (ap is_answered e)
+by_reply (ended.Rebuild (repair.Unavailable stripe missing)) point r answer e answers = never (ap is_answered e)
+by_reply (ended.Client client.NoMemory) point r answer e answers = never (ap is_answered e)
+by_reply (ended.Rebuild repair.NoMemory) point r answer e answers = never (ap is_answered e)
 by_reply outcome point r answer e answers = absurd answers
 
 by_missing : (outcome : CallOutcome) (stripe : ℕ) (missing : List Missing) (answer : Answer) → call_outcome_of outcome ≡ Outcome.Unavailable stripe (map lost_as missing) → AnswersCall outcome answer →
     (answer ≡ Answer.NoMemory) ⊎ (answer ≡ Answer.Unavailable stripe missing)
-by_missing (ended.Unavailable own lost) stripe missing answer e (inl none) = inl none
-by_missing (ended.Unavailable own lost) stripe missing answer e (inr answers) =
+by_missing (ended.Client (client.Unavailable own lost)) stripe missing answer e (inl none) = inl none
+by_missing (ended.Rebuild (repair.Unavailable own lost)) stripe missing answer e (inl none) = inl none
+by_missing (ended.Client (client.Unavailable own lost)) stripe missing answer e (inr answers) =
     inr (answers ∙ (λ i. Answer.Unavailable (ap stripe_in e i) (same_missing lost.items missing (ap missing_of e) i)))
-by_missing (ended.Answered p r) stripe missing answer e answers = never (ap is_unavailable_end e)
-by_missing (ended.Served p bytes) stripe missing answer e answers = never (ap is_unavailable_end e)
-by_missing ended.NoMemory stripe missing answer e answers = never (ap is_unavailable_end e)
+by_missing (ended.Rebuild (repair.Unavailable own lost)) stripe missing answer e (inr answers) =
+    inr (answers ∙ (λ i. Answer.Unavailable (ap stripe_in e i) (same_missing lost.items missing (ap missing_of e) i)))
+by_missing (ended.Client (client.Answered p r)) stripe missing answer e answers = never (ap is_unavailable_end e)
+by_missing (ended.Client (client.Served p bytes)) stripe missing answer e answers = never (ap is_unavailable_end e)
+by_missing (ended.Client client.NoMemory) stripe missing answer e answers = never (ap is_unavailable_end e)
+by_missing (ended.Rebuild repair.NoMemory) stripe missing answer e answers = never (ap is_unavailable_end e)
 by_missing outcome stripe missing answer e answers = absurd answers
 
 by_want : (outcome : CallOutcome) (answer : Answer) → call_outcome_of outcome ≡ Outcome.NoMemory → AnswersCall outcome answer → answer ≡ Answer.NoMemory
-by_want ended.NoMemory answer e answers = answers
-by_want (ended.Unavailable stripe missing) answer e answers = never (ap is_wanting e)
-by_want (ended.Answered p r) answer e answers = never (ap is_wanting e)
-by_want (ended.Served p bytes) answer e answers = never (ap is_wanting e)
+by_want (ended.Client client.NoMemory) answer e answers = answers
+by_want (ended.Rebuild repair.NoMemory) answer e answers = answers
+by_want (ended.Client (client.Unavailable stripe missing)) answer e answers = never (ap is_wanting e)
+by_want (ended.Rebuild (repair.Unavailable stripe missing)) answer e answers = never (ap is_wanting e)
+by_want (ended.Client (client.Answered p r)) answer e answers = never (ap is_wanting e)
+by_want (ended.Client (client.Served p bytes)) answer e answers = never (ap is_wanting e)
 by_want outcome answer e answers = absurd answers
 
 -- ---- so the answer is the session's, or memory was wanting for it and the state is left
 pub answer_is : (outcome : CallOutcome) (point : ℕ) (a answer : Answer) (after s : State) → IsOfCall a after s → call_outcome_of outcome ≡ outcome_at point a → AnswersCall outcome answer →
-    ((p : Point) (bytes : Vec ℕ Global) (given : List ℕ) → outcome ≡ ended.Served p bytes → a ≡ Answer.Replied (reply.Bytes given) → given ≡ bytes.items) →
+    ((p : Point) (bytes : Vec ℕ Global) (given : List ℕ) → outcome ≡ ended.Client (client.Served p bytes) → a ≡ Answer.Replied (reply.Bytes given) → given ≡ bytes.items) →
     (answer ≡ a) ⊎ ((answer ≡ Answer.NoMemory) × (after ≡ s))
 answer_is outcome point (Answer.Replied (reply.Bytes given)) answer after s its e answers same = inl (by_bytes outcome point given answer e answers (λ p bytes is. same p bytes given is refl))
 answer_is outcome point (Answer.Replied reply.Done) answer after s its e answers same = inl (by_reply outcome point reply.Done answer e answers)
@@ -164,46 +177,18 @@ pub wanting_is : (outcome : CallOutcome) (point : ℕ) (answer : Answer) → cal
 wanting_is outcome point answer e answers = by_want outcome answer e answers
 
 -- ---- and its end is one of a call
-abbrev is_call_end : Outcome → Bool
-is_call_end (Outcome.Answered point answer) = true
-is_call_end (Outcome.Served point) = true
-is_call_end (Outcome.Unavailable stripe missing) = true
-is_call_end Outcome.NoMemory = true
-is_call_end outcome = false
+replies_end : (point : ℕ) (r : Reply) → EndsCall (replied_at point r)
+replies_end point (reply.Bytes bytes) = tt
+replies_end point reply.Done = tt
+replies_end point (reply.Length n) = tt
+replies_end point reply.NoSuch = tt
+replies_end point reply.OutRange = tt
+replies_end point reply.TooLarge = tt
 
-replies_end : (point : ℕ) (r : Reply) → is_call_end (replied_at point r) ≡ true
-replies_end point (reply.Bytes bytes) = refl
-replies_end point reply.Done = refl
-replies_end point (reply.Length n) = refl
-replies_end point reply.NoSuch = refl
-replies_end point reply.OutRange = refl
-replies_end point reply.TooLarge = refl
-
-answers_end : (point : ℕ) (a : Answer) → is_call_end (outcome_at point a) ≡ true
+answers_end : (point : ℕ) (a : Answer) → EndsCall (outcome_at point a)
 answers_end point (Answer.Replied r) = replies_end point r
-answers_end point (Answer.Unavailable stripe missing) = refl
-answers_end point Answer.BadRequest = refl
-answers_end point Answer.NoMemory = refl
-answers_end point Answer.Rebuilt = refl
-answers_end point Answer.Here = refl
-answers_end point Answer.NoSnap = refl
-answers_end point Answer.SnapOpen = refl
-answers_end point (Answer.TooMany objects) = refl
-answers_end point (Answer.Scrubbed lost) = refl
-answers_end point (Answer.Healed rebuilt taken) = refl
+answers_end point (Answer.Unavailable stripe missing) = tt
+answers_end point other = tt
 
-ends_by : (outcome : CallOutcome) → is_call_end (call_outcome_of outcome) ≡ true → EndsCall outcome
-ends_by (ended.Answered p r) e = tt
-ends_by (ended.Served p bytes) e = tt
-ends_by (ended.Unavailable stripe missing) e = tt
-ends_by ended.NoMemory e = tt
-ends_by (ended.Contended changes) e = never e
-ends_by ended.Rebuilt e = never e
-ends_by ended.Here e = never e
-ends_by (ended.Away downs) e = never e
-ends_by ended.NoSuch e = never e
-ends_by (ended.Superseded newer) e = never e
-ends_by (ended.Reaped at) e = never e
-
-pub ends_call : (outcome : CallOutcome) (point : ℕ) (a : Answer) → call_outcome_of outcome ≡ outcome_at point a → EndsCall outcome
-ends_call outcome point a e = ends_by outcome (ap is_call_end e ∙ answers_end point a)
+pub ends_call : (outcome : Outcome) (point : ℕ) (a : Answer) → outcome ≡ outcome_at point a → EndsCall outcome
+ends_call outcome point a e = subst EndsCall (sym e) (answers_end point a)

@@ -1,5 +1,5 @@
 -- The answer to a rebuild that ended so is the session's.
-use Rattle.std.proofs.Common.{◌≡◌, ◌⊎◌, ℕ, Bool, true, false, List, [], ◌∷◌, length, map, refl, sym, ap, ◌∙◌, inl, inr, arith, true≢false, nat_lt, get_or, if◌then◌else◌}
+use Rattle.std.proofs.Common.{◌≡◌, ◌⊎◌, ℕ, Bool, true, false, List, [], ◌∷◌, length, map, refl, sym, ap, subst, ◌∙◌, inl, inr, arith, nat_lt, get_or, if◌then◌else◌}
 use Rattle.std.specs.Prelude.{⊤}
 use Rattle.clay_grid.specs.Shape.{Shape}
 use Rattle.store_map.specs.declared.reply.Reply.TheVariants as reply
@@ -15,7 +15,10 @@ use Rattle.session_rules.specs.AloneRebuilds.{rebuilt_as}
 use Rattle.call_steps.specs.CallOutcomes.{call_outcome_of}
 use Rattle.call_steps.specs.declared.outcome.CallOutcome.{CallOutcome}
 use Rattle.call_steps.specs.declared.outcome.CallOutcome.TheVariants as ended
-use Rattle.session_store.specs.Answers.{AnswersRebuild, EndsRebuild}
+use Rattle.call_steps.specs.declared.outcomes.Outcome.TheVariants as client
+use Rattle.call_steps.specs.declared.outcomes.RepairOutcome.TheVariants as repair
+use Rattle.session_store.specs.Answers.{AnswersRebuild}
+use Rattle.session_store.specs.Ends.{EndsRebuild}
 use Rattle.session_store.proofs.Outcomes.{same_missing}
 
 -- ---- what a rebuild is answered
@@ -60,46 +63,58 @@ missing_of (Outcome.Unavailable stripe missing) = missing
 missing_of outcome = []
 
 by_rebuilt : (outcome : CallOutcome) (answer : Answer) → number_of (call_outcome_of outcome) ≡ 1 → AnswersRebuild outcome answer → answer ≡ Answer.Rebuilt
-by_rebuilt ended.Rebuilt answer e answers = answers
-by_rebuilt ended.Here answer e answers = absurd (omega (arith, e))
-by_rebuilt ended.NoSuch answer e answers = absurd (omega (arith, e))
-by_rebuilt (ended.Unavailable stripe missing) answer e answers = absurd (omega (arith, e))
-by_rebuilt ended.NoMemory answer e answers = absurd (omega (arith, e))
+by_rebuilt (ended.Rebuild repair.Rebuilt) answer e answers = answers
+by_rebuilt (ended.Rebuild repair.Here) answer e answers = absurd (omega (arith, e))
+by_rebuilt (ended.Rebuild repair.NoSuch) answer e answers = absurd (omega (arith, e))
+by_rebuilt (ended.Rebuild (repair.Unavailable stripe missing)) answer e answers = absurd (omega (arith, e))
+by_rebuilt (ended.Client (client.Unavailable stripe missing)) answer e answers = absurd (omega (arith, e))
+by_rebuilt (ended.Rebuild repair.NoMemory) answer e answers = absurd (omega (arith, e))
+by_rebuilt (ended.Client client.NoMemory) answer e answers = absurd (omega (arith, e))
 by_rebuilt outcome answer e answers = absurd answers
 
 by_here : (outcome : CallOutcome) (answer : Answer) → number_of (call_outcome_of outcome) ≡ 2 → AnswersRebuild outcome answer → answer ≡ Answer.Here
-by_here ended.Rebuilt answer e answers = absurd (omega (arith, e))
-by_here ended.Here answer e answers = answers
-by_here ended.NoSuch answer e answers = absurd (omega (arith, e))
-by_here (ended.Unavailable stripe missing) answer e answers = absurd (omega (arith, e))
-by_here ended.NoMemory answer e answers = absurd (omega (arith, e))
+by_here (ended.Rebuild repair.Rebuilt) answer e answers = absurd (omega (arith, e))
+by_here (ended.Rebuild repair.Here) answer e answers = answers
+by_here (ended.Rebuild repair.NoSuch) answer e answers = absurd (omega (arith, e))
+by_here (ended.Rebuild (repair.Unavailable stripe missing)) answer e answers = absurd (omega (arith, e))
+by_here (ended.Client (client.Unavailable stripe missing)) answer e answers = absurd (omega (arith, e))
+by_here (ended.Rebuild repair.NoMemory) answer e answers = absurd (omega (arith, e))
+by_here (ended.Client client.NoMemory) answer e answers = absurd (omega (arith, e))
 by_here outcome answer e answers = absurd answers
 
 by_none : (outcome : CallOutcome) (answer : Answer) → number_of (call_outcome_of outcome) ≡ 3 → AnswersRebuild outcome answer → answer ≡ Answer.Replied reply.NoSuch
-by_none ended.Rebuilt answer e answers = absurd (omega (arith, e))
-by_none ended.Here answer e answers = absurd (omega (arith, e))
-by_none ended.NoSuch answer e answers = answers
-by_none (ended.Unavailable stripe missing) answer e answers = absurd (omega (arith, e))
-by_none ended.NoMemory answer e answers = absurd (omega (arith, e))
+by_none (ended.Rebuild repair.Rebuilt) answer e answers = absurd (omega (arith, e))
+by_none (ended.Rebuild repair.Here) answer e answers = absurd (omega (arith, e))
+by_none (ended.Rebuild repair.NoSuch) answer e answers = answers
+by_none (ended.Rebuild (repair.Unavailable stripe missing)) answer e answers = absurd (omega (arith, e))
+by_none (ended.Client (client.Unavailable stripe missing)) answer e answers = absurd (omega (arith, e))
+by_none (ended.Rebuild repair.NoMemory) answer e answers = absurd (omega (arith, e))
+by_none (ended.Client client.NoMemory) answer e answers = absurd (omega (arith, e))
 by_none outcome answer e answers = absurd answers
 
 by_missing : (outcome : CallOutcome) (stripe : ℕ) (missing : List Missing) (answer : Answer) → call_outcome_of outcome ≡ Outcome.Unavailable stripe (map lost_as missing) → AnswersRebuild outcome answer →
     (answer ≡ Answer.NoMemory) ⊎ (answer ≡ Answer.Unavailable stripe missing)
-by_missing (ended.Unavailable own lost) stripe missing answer e (inl none) = inl none
-by_missing (ended.Unavailable own lost) stripe missing answer e (inr answers) =
+by_missing (ended.Rebuild (repair.Unavailable own lost)) stripe missing answer e (inl none) = inl none
+by_missing (ended.Client (client.Unavailable own lost)) stripe missing answer e (inl none) = inl none
+by_missing (ended.Rebuild (repair.Unavailable own lost)) stripe missing answer e (inr answers) =
     inr (answers ∙ (λ i. Answer.Unavailable (ap stripe_in e i) (same_missing lost.items missing (ap missing_of e) i)))
-by_missing ended.Rebuilt stripe missing answer e answers = let n : 1 ≡ 4 = ap number_of e in absurd (omega (arith, n))
-by_missing ended.Here stripe missing answer e answers = let n : 2 ≡ 4 = ap number_of e in absurd (omega (arith, n))
-by_missing ended.NoSuch stripe missing answer e answers = let n : 3 ≡ 4 = ap number_of e in absurd (omega (arith, n))
-by_missing ended.NoMemory stripe missing answer e answers = let n : 5 ≡ 4 = ap number_of e in absurd (omega (arith, n))
+by_missing (ended.Client (client.Unavailable own lost)) stripe missing answer e (inr answers) =
+    inr (answers ∙ (λ i. Answer.Unavailable (ap stripe_in e i) (same_missing lost.items missing (ap missing_of e) i)))
+by_missing (ended.Rebuild repair.Rebuilt) stripe missing answer e answers = let n : 1 ≡ 4 = ap number_of e in absurd (omega (arith, n))
+by_missing (ended.Rebuild repair.Here) stripe missing answer e answers = let n : 2 ≡ 4 = ap number_of e in absurd (omega (arith, n))
+by_missing (ended.Rebuild repair.NoSuch) stripe missing answer e answers = let n : 3 ≡ 4 = ap number_of e in absurd (omega (arith, n))
+by_missing (ended.Rebuild repair.NoMemory) stripe missing answer e answers = let n : 5 ≡ 4 = ap number_of e in absurd (omega (arith, n))
+by_missing (ended.Client client.NoMemory) stripe missing answer e answers = let n : 5 ≡ 4 = ap number_of e in absurd (omega (arith, n))
 by_missing outcome stripe missing answer e answers = absurd answers
 
 pub rebuild_wanting : (outcome : CallOutcome) (answer : Answer) → number_of (call_outcome_of outcome) ≡ 5 → AnswersRebuild outcome answer → answer ≡ Answer.NoMemory
-rebuild_wanting ended.Rebuilt answer e answers = absurd (omega (arith, e))
-rebuild_wanting ended.Here answer e answers = absurd (omega (arith, e))
-rebuild_wanting ended.NoSuch answer e answers = absurd (omega (arith, e))
-rebuild_wanting (ended.Unavailable stripe missing) answer e answers = absurd (omega (arith, e))
-rebuild_wanting ended.NoMemory answer e answers = answers
+rebuild_wanting (ended.Rebuild repair.Rebuilt) answer e answers = absurd (omega (arith, e))
+rebuild_wanting (ended.Rebuild repair.Here) answer e answers = absurd (omega (arith, e))
+rebuild_wanting (ended.Rebuild repair.NoSuch) answer e answers = absurd (omega (arith, e))
+rebuild_wanting (ended.Rebuild (repair.Unavailable stripe missing)) answer e answers = absurd (omega (arith, e))
+rebuild_wanting (ended.Client (client.Unavailable stripe missing)) answer e answers = absurd (omega (arith, e))
+rebuild_wanting (ended.Rebuild repair.NoMemory) answer e answers = answers
+rebuild_wanting (ended.Client client.NoMemory) answer e answers = answers
 rebuild_wanting outcome answer e answers = absurd answers
 
 pub wanting_number : (outcome : CallOutcome) (a : Answer) → a ≡ Answer.NoMemory → call_outcome_of outcome ≡ rebuilt_as a → number_of (call_outcome_of outcome) ≡ 5
@@ -123,44 +138,9 @@ rebuild_is outcome (Answer.Replied reply.TooLarge) answer after s its e answers 
 rebuild_is outcome a answer after s its e answers = absurd its
 
 -- ---- and its end is one of a rebuild
-abbrev is_end : Outcome → Bool
-is_end Outcome.Rebuilt = true
-is_end Outcome.Here = true
-is_end Outcome.NoSuch = true
-is_end (Outcome.Unavailable stripe missing) = true
-is_end Outcome.NoMemory = true
-is_end outcome = false
+answers_end : (a : Answer) → EndsRebuild (rebuilt_as a)
+answers_end (Answer.Replied reply.NoSuch) = tt
+answers_end other = tt
 
-answers_end : (a : Answer) → is_end (rebuilt_as a) ≡ true
-answers_end (Answer.Replied reply.NoSuch) = refl
-answers_end (Answer.Replied reply.Done) = refl
-answers_end (Answer.Replied (reply.Bytes bytes)) = refl
-answers_end (Answer.Replied (reply.Length n)) = refl
-answers_end (Answer.Replied reply.OutRange) = refl
-answers_end (Answer.Replied reply.TooLarge) = refl
-answers_end (Answer.Unavailable stripe missing) = refl
-answers_end Answer.BadRequest = refl
-answers_end Answer.NoMemory = refl
-answers_end Answer.Rebuilt = refl
-answers_end Answer.Here = refl
-answers_end Answer.NoSnap = refl
-answers_end Answer.SnapOpen = refl
-answers_end (Answer.TooMany objects) = refl
-answers_end (Answer.Scrubbed lost) = refl
-answers_end (Answer.Healed rebuilt taken) = refl
-
-ends_by : (outcome : CallOutcome) → is_end (call_outcome_of outcome) ≡ true → EndsRebuild outcome
-ends_by ended.Rebuilt e = tt
-ends_by ended.Here e = tt
-ends_by ended.NoSuch e = tt
-ends_by (ended.Unavailable stripe missing) e = tt
-ends_by ended.NoMemory e = tt
-ends_by (ended.Answered p r) e = absurd (true≢false (sym e))
-ends_by (ended.Served p bytes) e = absurd (true≢false (sym e))
-ends_by (ended.Contended changes) e = absurd (true≢false (sym e))
-ends_by (ended.Away downs) e = absurd (true≢false (sym e))
-ends_by (ended.Superseded newer) e = absurd (true≢false (sym e))
-ends_by (ended.Reaped at) e = absurd (true≢false (sym e))
-
-pub ends_rebuild : (outcome : CallOutcome) (a : Answer) → call_outcome_of outcome ≡ rebuilt_as a → EndsRebuild outcome
-ends_rebuild outcome a e = ends_by outcome (ap is_end e ∙ answers_end a)
+pub ends_rebuild : (outcome : Outcome) (a : Answer) → outcome ≡ rebuilt_as a → EndsRebuild outcome
+ends_rebuild outcome a e = subst EndsRebuild (sym e) (answers_end a)

@@ -37,10 +37,10 @@ use Rattle.session_store.specs.AtWork.{HasRun}
 use Rattle.session_store.proofs.AloneRunning.{calls_run_alone}
 use Rattle.call_steps.specs.CallOutcomes.{call_outcome_of}
 use Rattle.call_steps.specs.declared.outcome.CallOutcome.{CallOutcome}
-use Rattle.call_steps.specs.declared.outcome.CallOutcome.TheVariants as ended
 use Rattle.store_core.specs.Lookups.{same_actor}
 use Rattle.session_rules.specs.Rebuilds.{rebuild}
-use Rattle.session_store.specs.Answers.{AnswersRebuild, EndsRebuild}
+use Rattle.session_store.specs.Answers.{AnswersRebuild}
+use Rattle.session_store.specs.Ends.{EndsRebuild}
 use Rattle.session_store.specs.Kept.{HasSeat, ServesRequest}
 use Rattle.session_store.specs.Serving.{Serves}
 use Rattle.session_store.specs.Standing.{AreKept}
@@ -135,8 +135,8 @@ module _ (parts : Parts) (is : IsStore (store_of parts)) (it : RebuildCall) (bel
       pub is_answered : (answered : IsAnswered at.calls g (store_of parts).max (seats_at parts.served) s request (seen_in now)) × (call_outcome_of outcome ≡ rebuilt_as answered.served.1)
       is_answered = rebuilds_are_answered at.calls g (store_of parts).max tries (seats_at parts.served) at.stands (seen_in parts.places) (seen_in now) s it.name it.stripe it.server (call_outcome_of outcome) is.wide (has_parity g is.code) below at.between runs_to
 
-    pub ends_well : EndsRebuild outcome
-    ends_well = let its = is_answered is.state is.stands in ends_rebuild outcome its.0.served.1 its.1
+    pub ends_well : EndsRebuild (call_outcome_of outcome)
+    ends_well = let its = is_answered is.state is.stands in ends_rebuild (call_outcome_of outcome) its.0.served.1 its.1
 
     -- ---- what it leaves
     module _ (seat_now : Seat) (seat_after : ActorToken.Seated seat_now ≡ c.call.token) (answer : Answer) (answers : AnswersRebuild outcome answer) where

@@ -1,5 +1,5 @@
 -- The answer to a call, a rebuild or a read that ended so.
-use Rattle.std.specs.Prelude.{◌≡◌, ◌⊎◌, ⊤, ℕ, List, map}
+use Rattle.std.specs.Prelude.{◌≡◌, ◌⊎◌, ℕ, List, map}
 use Rattle.store_map.specs.declared.placement.Placement.{Placement}
 use Rattle.store_map.specs.declared.placement.Placement.TheVariants as placement
 use Rattle.store_map.specs.declared.placement.Found.{Found}
@@ -12,6 +12,8 @@ use Rattle.snapshot_view.specs.declared.ends.SnapOutcome.{SnapOutcome}
 use Rattle.snapshot_view.specs.declared.ends.SnapOutcome.TheVariants as read
 use Rattle.call_steps.specs.declared.outcome.CallOutcome.{CallOutcome}
 use Rattle.call_steps.specs.declared.outcome.CallOutcome.TheVariants as ended
+use Rattle.call_steps.specs.declared.outcomes.Outcome.TheVariants as client
+use Rattle.call_steps.specs.declared.outcomes.RepairOutcome.TheVariants as repair
 
 -- the count that a placement tells, and that why a chunk isn't given tells
 abbrev pub placed_epoch : Placement → ℕ
@@ -30,21 +32,25 @@ missing_in lost = record { server = lost.server; placed = placed_epoch lost.plac
 abbrev pub IsUnavailable : ℕ → List LostChunk → Answer → Type 0
 IsUnavailable stripe missing answer = (answer ≡ Answer.NoMemory) ⊎ (answer ≡ Answer.Unavailable stripe (map missing_in missing))
 
--- to a client's call
+-- to a client's call; the two ends that a rebuild shares are answered alike
 abbrev pub AnswersCall : CallOutcome → Answer → Type 0
-AnswersCall (ended.Answered point reply) answer = answer ≡ Answer.Replied reply
-AnswersCall (ended.Served point bytes) answer = answer ≡ Answer.Replied (reply.Bytes bytes.items)
-AnswersCall (ended.Unavailable stripe missing) answer = IsUnavailable stripe missing.items answer
-AnswersCall ended.NoMemory answer = answer ≡ Answer.NoMemory
+AnswersCall (ended.Client (client.Answered point reply)) answer = answer ≡ Answer.Replied reply
+AnswersCall (ended.Client (client.Served point bytes)) answer = answer ≡ Answer.Replied (reply.Bytes bytes.items)
+AnswersCall (ended.Client (client.Unavailable stripe missing)) answer = IsUnavailable stripe missing.items answer
+AnswersCall (ended.Rebuild (repair.Unavailable stripe missing)) answer = IsUnavailable stripe missing.items answer
+AnswersCall (ended.Client client.NoMemory) answer = answer ≡ Answer.NoMemory
+AnswersCall (ended.Rebuild repair.NoMemory) answer = answer ≡ Answer.NoMemory
 AnswersCall _ answer = ⊥
 
--- to a rebuild
+-- to a rebuild, likewise
 abbrev pub AnswersRebuild : CallOutcome → Answer → Type 0
-AnswersRebuild ended.Rebuilt answer = answer ≡ Answer.Rebuilt
-AnswersRebuild ended.Here answer = answer ≡ Answer.Here
-AnswersRebuild ended.NoSuch answer = answer ≡ Answer.Replied reply.NoSuch
-AnswersRebuild (ended.Unavailable stripe missing) answer = IsUnavailable stripe missing.items answer
-AnswersRebuild ended.NoMemory answer = answer ≡ Answer.NoMemory
+AnswersRebuild (ended.Rebuild repair.Rebuilt) answer = answer ≡ Answer.Rebuilt
+AnswersRebuild (ended.Rebuild repair.Here) answer = answer ≡ Answer.Here
+AnswersRebuild (ended.Rebuild repair.NoSuch) answer = answer ≡ Answer.Replied reply.NoSuch
+AnswersRebuild (ended.Rebuild (repair.Unavailable stripe missing)) answer = IsUnavailable stripe missing.items answer
+AnswersRebuild (ended.Client (client.Unavailable stripe missing)) answer = IsUnavailable stripe missing.items answer
+AnswersRebuild (ended.Rebuild repair.NoMemory) answer = answer ≡ Answer.NoMemory
+AnswersRebuild (ended.Client client.NoMemory) answer = answer ≡ Answer.NoMemory
 AnswersRebuild _ answer = ⊥
 
 -- to a read of a snapshot
@@ -54,20 +60,3 @@ AnswersRead read.NoSuch answer = answer ≡ Answer.Replied reply.NoSuch
 AnswersRead read.OutRange answer = answer ≡ Answer.Replied reply.OutRange
 AnswersRead (read.Unavailable stripe missing) answer = IsUnavailable stripe missing.items answer
 AnswersRead read.NoMemory answer = answer ≡ Answer.NoMemory
-
--- a call of the map that runs alone ends so
-abbrev pub EndsCall : CallOutcome → Type 0
-EndsCall (ended.Answered point reply) = ⊤
-EndsCall (ended.Served point bytes) = ⊤
-EndsCall (ended.Unavailable stripe missing) = ⊤
-EndsCall ended.NoMemory = ⊤
-EndsCall _ = ⊥
-
--- and a rebuild so
-abbrev pub EndsRebuild : CallOutcome → Type 0
-EndsRebuild ended.Rebuilt = ⊤
-EndsRebuild ended.Here = ⊤
-EndsRebuild ended.NoSuch = ⊤
-EndsRebuild (ended.Unavailable stripe missing) = ⊤
-EndsRebuild ended.NoMemory = ⊤
-EndsRebuild _ = ⊥

@@ -5,6 +5,7 @@ pub mod Serving
 pub mod Kept
 pub mod Beginning
 pub mod Answers
+pub mod Ends
 pub mod Sweeping
 pub mod CallBytes
 pub mod Stepping

@@ -1,8 +1,10 @@
 //! A session's answers, from how calls and reads ended.
 ghost use Rattle.std.specs.Prelude.{◌≡◌, map, IfOk};
-ghost use Rattle.session_store.specs.Answers.{missing_in, IsUnavailable, AnswersCall, AnswersRebuild, AnswersRead, EndsCall, EndsRebuild};
+ghost use Rattle.call_steps.specs.CallOutcomes.{call_outcome_of};
+ghost use Rattle.session_store.specs.Answers.{missing_in, IsUnavailable, AnswersCall, AnswersRebuild, AnswersRead};
+ghost use Rattle.session_store.specs.Ends.{EndsCall, EndsRebuild};
 
-use call_steps::CallOutcome;
+use call_steps::{CallOutcome, Outcome, RepairOutcome};
 use session_rules::{Answer, Missing};
 use snapshot_view::SnapOutcome;
 use std::alloc::{AllocError, Global};
@@ -50,42 +52,43 @@ fn unavailable(alloc: Global, stripe: u32, lost: &[LostChunk]) -> Answer
 
 /// The answer to a call of the map that ended so.
 pub(crate) fn of_call(alloc: Global, outcome: CallOutcome) -> Answer
-    requires { EndsCall outcome }
+    requires { EndsCall (call_outcome_of outcome) }
     ensures { AnswersCall outcome result }
 {
     match outcome {
-        CallOutcome::Answered { reply, .. } => Answer::Replied(reply),
-        CallOutcome::Served { bytes, .. } => Answer::Replied(Reply::Bytes(ListOf::from_vec(bytes))),
-        CallOutcome::Unavailable { stripe, missing } => unavailable(alloc, stripe, &missing),
-        CallOutcome::NoMemory => Answer::NoMemory,
+        CallOutcome::Client(Outcome::Answered { reply, .. }) => Answer::Replied(reply),
+        CallOutcome::Client(Outcome::Served { bytes, .. }) => {
+            Answer::Replied(Reply::Bytes(ListOf::from_vec(bytes)))
+        }
+        CallOutcome::Client(Outcome::Unavailable { stripe, missing })
+        | CallOutcome::Rebuild(RepairOutcome::Unavailable { stripe, missing }) => {
+            unavailable(alloc, stripe, &missing)
+        }
+        CallOutcome::Client(Outcome::NoMemory) | CallOutcome::Rebuild(RepairOutcome::NoMemory) => {
+            Answer::NoMemory
+        }
         // No other call comes between, no server is away, and nothing is given up.
-        CallOutcome::Contended { .. }
-        | CallOutcome::Rebuilt
-        | CallOutcome::Here
-        | CallOutcome::Away { .. }
-        | CallOutcome::NoSuch
-        | CallOutcome::Superseded { .. }
-        | CallOutcome::Reaped { .. } => unreachable!(),
+        CallOutcome::Client(_) | CallOutcome::Rebuild(_) => unreachable!(),
     }
 }
 
 /// The answer to a rebuild that ended so.
 pub(crate) fn of_rebuild(alloc: Global, outcome: CallOutcome) -> Answer
-    requires { EndsRebuild outcome }
+    requires { EndsRebuild (call_outcome_of outcome) }
     ensures { AnswersRebuild outcome result }
 {
     match outcome {
-        CallOutcome::Rebuilt => Answer::Rebuilt,
-        CallOutcome::Here => Answer::Here,
-        CallOutcome::NoSuch => Answer::Replied(Reply::NoSuch),
-        CallOutcome::Unavailable { stripe, missing } => unavailable(alloc, stripe, &missing),
-        CallOutcome::NoMemory => Answer::NoMemory,
-        CallOutcome::Answered { .. }
-        | CallOutcome::Served { .. }
-        | CallOutcome::Contended { .. }
-        | CallOutcome::Away { .. }
-        | CallOutcome::Superseded { .. }
-        | CallOutcome::Reaped { .. } => unreachable!(),
+        CallOutcome::Rebuild(RepairOutcome::Rebuilt) => Answer::Rebuilt,
+        CallOutcome::Rebuild(RepairOutcome::Here) => Answer::Here,
+        CallOutcome::Rebuild(RepairOutcome::NoSuch) => Answer::Replied(Reply::NoSuch),
+        CallOutcome::Client(Outcome::Unavailable { stripe, missing })
+        | CallOutcome::Rebuild(RepairOutcome::Unavailable { stripe, missing }) => {
+            unavailable(alloc, stripe, &missing)
+        }
+        CallOutcome::Client(Outcome::NoMemory) | CallOutcome::Rebuild(RepairOutcome::NoMemory) => {
+            Answer::NoMemory
+        }
+        CallOutcome::Client(_) | CallOutcome::Rebuild(_) => unreachable!(),
     }
 }
 

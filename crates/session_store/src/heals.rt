@@ -16,7 +16,7 @@ use crate::scrubs::lost_chunks;
 use crate::seats::{put_seat, take};
 use crate::sweeps::sweep_all;
 use call_machine::CallMachine;
-use call_steps::CallOutcome;
+use call_steps::{CallOutcome, RepairOutcome};
 use clay_model::Coder;
 use read_ledger::Takes;
 use session_rules::{Answer, LostChunk};
@@ -49,7 +49,7 @@ fn add_takes(taken: &mut [u64], takes: Option<Takes>)
 fn has_rebuilt(outcome: CallOutcome) -> bool
     ensures { result ≡ is_rebuilt (call_outcome_of outcome) }
 {
-    matches!(outcome, CallOutcome::Rebuilt)
+    matches!(outcome, CallOutcome::Rebuild(RepairOutcome::Rebuilt))
 }
 
 // The healer makes one chunk anew, with its next number: whether memory was ample.

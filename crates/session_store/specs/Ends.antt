@@ -1,0 +1,20 @@
+-- How a call or a rebuild that runs alone ends.
+use Rattle.std.specs.Prelude.{⊤}
+use Rattle.store_core.specs.Act.{Outcome}
+
+-- a call of the map ends so
+abbrev pub EndsCall : Outcome → Type 0
+EndsCall (Outcome.Answered point reply) = ⊤
+EndsCall (Outcome.Served point) = ⊤
+EndsCall (Outcome.Unavailable stripe missing) = ⊤
+EndsCall Outcome.NoMemory = ⊤
+EndsCall _ = ⊥
+
+-- and a rebuild so
+abbrev pub EndsRebuild : Outcome → Type 0
+EndsRebuild Outcome.Rebuilt = ⊤
+EndsRebuild Outcome.Here = ⊤
+EndsRebuild Outcome.NoSuch = ⊤
+EndsRebuild (Outcome.Unavailable stripe missing) = ⊤
+EndsRebuild Outcome.NoMemory = ⊤
+EndsRebuild _ = ⊥
