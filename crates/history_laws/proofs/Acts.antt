@@ -10,11 +10,11 @@ use Rattle.store_map.specs.declared.actor.Actor.{Actor}
 use Rattle.store_map.specs.declared.actor.Actor.TheVariants as actor
 use Rattle.store_map.specs.declared.script.Script.{Script}
 use Rattle.store_map.specs.declared.call_name.CallName.{CallName}
-use Rattle.store_map.specs.declared.call_name.CallName.TheVariants as name
 use Rattle.store_core.specs.ActPlace.{is_in_pass}
 use Rattle.store_core.specs.Core.{Core}
 use Rattle.store_core.specs.NextAct.{Job, next_act}
 use Rattle.store_core.specs.Run.{places_in}
+use Rattle.store_core.specs.Shown.{client_name, repairer_name}
 use Rattle.store_core.specs.Step.{Shortage, Places, told_first}
 use Rattle.store_core.specs.Sweep.{next_sweep}
 use Rattle.store_core.specs.Tell.{tell}
@@ -70,34 +70,34 @@ module _ (script : Script) where
   client_next : (trace : List Made) (i : ℕ) (work : Work) (c : Calling) (job : Job) (shortage : Shortage) (places : Places) → slice_get (client_work script) i ≡ Some work → slice_get work.jobs (length c.ended) ≡ Some job
       → CauseThen script.geometry (size_of script) (tries_of script) trace (actor.Client i) work.jobs c → IsNext trace (call_made script shortage (actor.Client i) c places job)
   client_next trace i work c job shortage places is_work is_job h call other is_other of =
-      subst (λ n. Goal n) (same_Some (name.Client i (length c.ended)) call of)
+      subst (λ n. Goal n) (same_Some (client_name i (length c.ended)) call of)
       (subst (λ j. (call_made script shortage (actor.Client i) c places job).act ≡ act_after script.geometry (tries_of script) j (told_to (actor.Client i) (length c.ended) trace ++ told_before (call_made script shortage (actor.Client i) c places job).short)) same
       (call_next trace (actor.Client i) work.jobs c job shortage places is_job h))
     where
       Goal : CallName → Type 0
       Goal n = (call_made script shortage (actor.Client i) c places job).act ≡ act_after script.geometry (tries_of script) other (answers_to n trace ++ told_before (call_made script shortage (actor.Client i) c places job).short)
 
-      here : job_of_call script (name.Client i (length c.ended)) ≡ Some job
+      here : job_of_call script (client_name i (length c.ended)) ≡ Some job
       here = ap (option_and_then (λ (w : Work). slice_get w.jobs (length c.ended))) is_work ∙ is_job
 
       same : job ≡ other
-      same = same_Some job other (sym here ∙ ap (job_of_call script) (same_Some (name.Client i (length c.ended)) call of) ∙ is_other)
+      same = same_Some job other (sym here ∙ ap (job_of_call script) (same_Some (client_name i (length c.ended)) call of) ∙ is_other)
 
   repairer_next : (trace : List Made) (i : ℕ) (work : Work) (c : Calling) (job : Job) (shortage : Shortage) (places : Places) → slice_get (repairer_work script) i ≡ Some work → slice_get work.jobs (length c.ended) ≡ Some job
       → CauseThen script.geometry (size_of script) (tries_of script) trace (actor.Repairer i) work.jobs c → IsNext trace (call_made script shortage (actor.Repairer i) c places job)
   repairer_next trace i work c job shortage places is_work is_job h call other is_other of =
-      subst (λ n. Goal n) (same_Some (name.Repairer i (length c.ended)) call of)
+      subst (λ n. Goal n) (same_Some (repairer_name i (length c.ended)) call of)
       (subst (λ j. (call_made script shortage (actor.Repairer i) c places job).act ≡ act_after script.geometry (tries_of script) j (told_to (actor.Repairer i) (length c.ended) trace ++ told_before (call_made script shortage (actor.Repairer i) c places job).short)) same
       (call_next trace (actor.Repairer i) work.jobs c job shortage places is_job h))
     where
       Goal : CallName → Type 0
       Goal n = (call_made script shortage (actor.Repairer i) c places job).act ≡ act_after script.geometry (tries_of script) other (answers_to n trace ++ told_before (call_made script shortage (actor.Repairer i) c places job).short)
 
-      here : job_of_call script (name.Repairer i (length c.ended)) ≡ Some job
+      here : job_of_call script (repairer_name i (length c.ended)) ≡ Some job
       here = ap (option_and_then (λ (w : Work). slice_get w.jobs (length c.ended))) is_work ∙ is_job
 
       same : job ≡ other
-      same = same_Some job other (sym here ∙ ap (job_of_call script) (same_Some (name.Repairer i (length c.ended)) call of) ∙ is_other)
+      same = same_Some job other (sym here ∙ ap (job_of_call script) (same_Some (repairer_name i (length c.ended)) call of) ∙ is_other)
 
 -- ---- in every run
 record NextSoFar (script : Script) (trace : List Made) (core : Core) : Type 0 where

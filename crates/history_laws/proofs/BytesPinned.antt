@@ -8,20 +8,20 @@ use Rattle.store_map.specs.declared.actor.Actor.TheVariants as actor
 use Rattle.store_map.specs.declared.reply.Reply.{Reply}
 use Rattle.store_map.specs.declared.reply.Reply.TheVariants as reply
 use Rattle.store_map.specs.declared.script.Script.{Script}
-use Rattle.store_map.specs.declared.call_name.CallName.TheVariants as name
+use Rattle.store_map.specs.declared.call_name.ClientCall.{ClientCall}
 use Rattle.store_map.specs.declared.shown.Shown.{Shown}
 use Rattle.store_map.specs.declared.shown.Shown.TheVariants as shown_as
 use Rattle.store_core.specs.Act.{Outcome}
 use Rattle.store_core.specs.Core.{Core}
 use Rattle.store_core.specs.Directory.{Event, Point}
-use Rattle.store_core.specs.History.{is_answered, name_of, shown_at, answered_in}
+use Rattle.store_core.specs.History.{is_answered, shown_at, answered_in}
 use Rattle.store_core.specs.Lookups.{same_actor}
 use Rattle.store_core.specs.Sound.{AreInOrder}
 use Rattle.history_laws.specs.HasPoints.{IsReply, IsPin, PointAt, HasItsPoint}
-use Rattle.history_laws.proofs.OrderEnds.{EndKnown, is_client}
+use Rattle.history_laws.proofs.Naming.{named_client}
+use Rattle.history_laws.proofs.OrderEnds.{EndKnown}
 use Rattle.history_laws.proofs.OrderShown.{ShownPoint}
 use Rattle.history_laws.proofs.Points.{IsPlain, IsOfScript}
-use Rattle.history_laws.specs.LineCauses.{caller_of, number_of}
 use Rattle.run_laws.proofs.SoundLists.{at_all}
 
 -- ---- the event of a point that shows bytes
@@ -48,22 +48,15 @@ pin_shown Event.Done false mapped bytes of e =
     absurd (true≢false (sym (ap (λ s. is_bytes (reply_in s)) (same_Some shown_as.Unfinished (shown_as.Reply (reply.Bytes bytes)) e))))
 pin_shown Event.Reaped answered mapped bytes of e = absurd (none-some (shown_as.Reply (reply.Bytes bytes)) e)
 
--- a client's point
-named_client : (who : Actor) (n i number : ℕ) → name_of who n ≡ Some (name.Client i number) → (who ≡ actor.Client i) × (n ≡ number)
-named_client (actor.Client j) n i number e = (ap caller_of (same_Some (name.Client j n) (name.Client i number) e), ap number_of (same_Some (name.Client j n) (name.Client i number) e))
-named_client (actor.Repairer j) n i number e = absurd (true≢false (sym (ap is_client (same_Some (name.Repairer j n) (name.Client i number) e))))
-named_client actor.Sweeper n i number e = absurd (none-some (name.Client i number) e)
-named_client actor.Operator n i number e = absurd (none-some (name.Client i number) e)
-
-module _ (script : Script) (core : Core) (known : EndKnown script core) (i number : ℕ) where
+module _ (script : Script) (core : Core) (known : EndKnown script core) (call : ClientCall) where
   plain_of : (point : Point) → IsOfScript script point → (point.event ≡ Event.Reaped) ⊎ IsPlain point.event
   plain_of point (inl reaped) = inl reaped
   plain_of point (inr of) = inr of.plain
 
-  pub bytes_pinned : (point : ℕ) (bytes : List ℕ) → ShownPoint script core core.directory.points (record { point = point; call = name.Client i number; reply = shown_as.Reply (reply.Bytes bytes) })
-      → (place : ℕ) × PointAt (actor.Client i) number IsPin core.directory.points place
+  pub bytes_pinned : (point : ℕ) (bytes : List ℕ) → ShownPoint script core core.directory.points (record { point = point; call = call; reply = shown_as.Reply (reply.Bytes bytes) })
+      → (place : ℕ) × PointAt (actor.Client call.client) call.number IsPin core.directory.points place
   bytes_pinned point bytes of =
-      let mine : (of.point.actor ≡ actor.Client i) × (of.point.number ≡ number) = named_client of.point.actor of.point.number i number of.named in (
+      let mine : (of.point.actor ≡ actor.Client call.client) × (of.point.number ≡ call.number) = named_client of.point.actor of.point.number call of.named in (
         of.at,
         record {
           point = of.point;

@@ -9,6 +9,8 @@ use Rattle.store_map.specs.declared.actor.Actor.{Actor}
 use Rattle.store_map.specs.declared.actor.Actor.TheVariants as actor
 use Rattle.store_map.specs.declared.actor.Token.{Token}
 use Rattle.store_map.specs.declared.script.Script.{Script}
+use Rattle.store_map.specs.declared.call_name.ClientCall.{ClientCall}
+use Rattle.store_map.specs.declared.call_name.RepairCall.{RepairCall}
 use Rattle.store_map.specs.declared.call_name.CallName.{CallName}
 use Rattle.store_map.specs.declared.call_name.CallName.TheVariants as name
 use Rattle.store_map.specs.declared.cause.Cause.{Cause}
@@ -19,6 +21,7 @@ use Rattle.store_core.specs.Act.{Act, Outcome}
 use Rattle.store_core.specs.Core.{Core, first_core}
 use Rattle.store_core.specs.NextAct.{Job}
 use Rattle.store_core.specs.Outcomes.{cause_of, result_of}
+use Rattle.store_core.specs.RowLines.{client, repair}
 use Rattle.store_core.specs.Run.{places_in}
 use Rattle.store_core.specs.Schedule.{run_core}
 use Rattle.store_core.specs.Shown.{shown, refused_line, repair_line, lines_of_ended}
@@ -128,45 +131,50 @@ module _ (script : Script) (some : 0 < script.geometry.parity_count) (trace : Li
         caused = (outcomes_in_steps script.geometry (size_of script) (tries_of script) job).causes (told_to (caller_of call) (number_of call) trace) outcome some so.0 so.1;
       }
 
+module _ (script : Script) (some : 0 < script.geometry.parity_count) (trace : List Made) where
   abbrev Q : XLine → Type 0
-  Q line = WasCaused script trace line.call (λ outcome. cause_of outcome ≡ Some line.cause)
+  Q line = WasCaused script trace (name.Client line.call) (λ outcome. cause_of outcome ≡ Some line.cause)
 
   abbrev R : RLine → Type 0
-  R line = WasCaused script trace line.call (λ outcome. result_of outcome ≡ Some line.result)
+  R line = WasCaused script trace (name.Repairer line.call) (λ outcome. result_of outcome ≡ Some line.result)
 
-  refused_one : (outcome : Outcome) → EndsSo outcome → (found : Option Cause) → cause_of outcome ≡ found → All Q (refused_line call found)
-  refused_one outcome so None e = All-nil Q
-  refused_one outcome so (Some cause) e = All-cons Q (record { call = call; cause = cause }) [] (caused outcome (λ o. cause_of o ≡ Some cause) so e) (All-nil Q)
+  refused_one : (call : ClientCall) (job : Job) (is_call : job_of_call script (name.Client call) ≡ Some job) (outcome : Outcome) → EndsSo script some trace (name.Client call) job is_call outcome
+      → (found : Option Cause) → cause_of outcome ≡ found → All Q (refused_line call found)
+  refused_one call job is_call outcome so None e = All-nil Q
+  refused_one call job is_call outcome so (Some cause) e =
+      All-cons Q (record { call = call; cause = cause }) [] (caused script some trace (name.Client call) job is_call outcome (λ o. cause_of o ≡ Some cause) so e) (All-nil Q)
 
-  repair_one : (outcome : Outcome) → EndsSo outcome → (found : Option RepairResult) → result_of outcome ≡ found → All R (repair_line call found)
-  repair_one outcome so None e = All-nil R
-  repair_one outcome so (Some result) e = All-cons R (record { call = call; result = result }) [] (caused outcome (λ o. result_of o ≡ Some result) so e) (All-nil R)
+  repair_one : (call : RepairCall) (job : Job) (is_call : job_of_call script (name.Repairer call) ≡ Some job) (outcome : Outcome) → EndsSo script some trace (name.Repairer call) job is_call outcome
+      → (found : Option RepairResult) → result_of outcome ≡ found → All R (repair_line call found)
+  repair_one call job is_call outcome so None e = All-nil R
+  repair_one call job is_call outcome so (Some result) e =
+      All-cons R (record { call = call; result = result }) [] (caused script some trace (name.Repairer call) job is_call outcome (λ o. result_of o ≡ Some result) so e) (All-nil R)
 
 module _ (script : Script) (trace : List Made) (core : Core) (known : EndKnown script core) (some : 0 < script.geometry.parity_count) (has : CausesSoFar script trace core) where
   lines_are_caused : LinesAreCaused script trace (shown script core)
   lines_are_caused =
       record {
         refused =
-            all_indexed (λ j. lines_of_ended (λ number ended. refused_line (name.Client j number) (cause_of ended.outcome))) (λ (line : XLine). WasCaused script trace line.call (λ outcome. cause_of outcome ≡ Some line.cause)) core.clients
+            all_indexed (λ j. lines_of_ended (λ number ended. refused_line (client j number) (cause_of ended.outcome))) (λ (line : XLine). WasCaused script trace (name.Client line.call) (λ outcome. cause_of outcome ≡ Some line.cause)) core.clients
             (λ i c is_c.
-            all_indexed (λ number ended. refused_line (name.Client i number) (cause_of ended.outcome)) (λ (line : XLine). WasCaused script trace line.call (λ outcome. cause_of outcome ≡ Some line.cause)) c.ended
+            all_indexed (λ number ended. refused_line (client i number) (cause_of ended.outcome)) (λ (line : XLine). WasCaused script trace (name.Client line.call) (λ outcome. cause_of outcome ≡ Some line.cause)) c.ended
             (λ number e is_e.
             let work : (w : Work) × (slice_get (client_work script) i ≡ Some w) = client_has script core known i c is_c in
             let most : length c.ended ≤ length work.0.jobs = (known.calls.clients i c is_c work.0 work.1).below in
             let low : number < length c.ended = slice_get_within c.ended number e is_e in
             let job : (j : Job) × (slice_get work.0.jobs number ≡ Some j) = inside work.0.jobs number (omega (arith, most, low)) in
-            refused_one script some trace (name.Client i number) job.0 (ap (option_and_then (λ (w : Work). slice_get w.jobs number)) work.1 ∙ job.1) e.outcome
+            refused_one script some trace (client i number) job.0 (ap (option_and_then (λ (w : Work). slice_get w.jobs number)) work.1 ∙ job.1) e.outcome
             ((has.clients i c is_c work.0 work.1).ended number job.0 e job.1 is_e) (cause_of e.outcome) refl));
         repairs =
-            all_indexed (λ j. lines_of_ended (λ number ended. repair_line (name.Repairer j number) (result_of ended.outcome))) (λ (line : RLine). WasCaused script trace line.call (λ outcome. result_of outcome ≡ Some line.result)) core.repairers
+            all_indexed (λ j. lines_of_ended (λ number ended. repair_line (repair j number) (result_of ended.outcome))) (λ (line : RLine). WasCaused script trace (name.Repairer line.call) (λ outcome. result_of outcome ≡ Some line.result)) core.repairers
             (λ i c is_c.
-            all_indexed (λ number ended. repair_line (name.Repairer i number) (result_of ended.outcome)) (λ (line : RLine). WasCaused script trace line.call (λ outcome. result_of outcome ≡ Some line.result)) c.ended
+            all_indexed (λ number ended. repair_line (repair i number) (result_of ended.outcome)) (λ (line : RLine). WasCaused script trace (name.Repairer line.call) (λ outcome. result_of outcome ≡ Some line.result)) c.ended
             (λ number e is_e.
             let work : (w : Work) × (slice_get (repairer_work script) i ≡ Some w) = repairer_has script core known i c is_c in
             let most : length c.ended ≤ length work.0.jobs = (known.calls.repairers i c is_c work.0 work.1).below in
             let low : number < length c.ended = slice_get_within c.ended number e is_e in
             let job : (j : Job) × (slice_get work.0.jobs number ≡ Some j) = inside work.0.jobs number (omega (arith, most, low)) in
-            repair_one script some trace (name.Repairer i number) job.0 (ap (option_and_then (λ (w : Work). slice_get w.jobs number)) work.1 ∙ job.1) e.outcome
+            repair_one script some trace (repair i number) job.0 (ap (option_and_then (λ (w : Work). slice_get w.jobs number)) work.1 ∙ job.1) e.outcome
             ((has.repairers i c is_c work.0 work.1).ended number job.0 e job.1 is_e) (result_of e.outcome) refl));
       }
 

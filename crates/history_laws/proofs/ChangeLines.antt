@@ -14,19 +14,19 @@ use Rattle.store_map.specs.declared.call.Call.TheVariants as call
 use Rattle.store_map.specs.declared.reply.Reply.{Reply}
 use Rattle.store_map.specs.declared.reply.Reply.TheVariants as reply
 use Rattle.store_map.specs.declared.script.Script.{Script}
-use Rattle.store_map.specs.declared.call_name.CallName.{CallName}
-use Rattle.store_map.specs.declared.call_name.CallName.TheVariants as name
+use Rattle.store_map.specs.declared.call_name.ClientCall.{ClientCall}
 use Rattle.store_map.specs.declared.shown.Shown.{Shown}
 use Rattle.store_map.specs.declared.line.HLine.{HLine}
 use Rattle.hist_rules.specs.Calls.{call_of as script_call}
 use Rattle.hist_rules.specs.Named.{is_effect, changes_name, is_change_line, is_change_point}
 use Rattle.store_core.specs.Core.{Core}
 use Rattle.store_core.specs.Directory.{Event, Point}
-use Rattle.store_core.specs.History.{call_of, answered_in, applied, shown_at, name_of, line_of, history_from, history_of}
+use Rattle.store_core.specs.History.{call_of, answered_in, applied, shown_at, client_call, line_of, history_from, history_of}
 use Rattle.store_core.specs.Lengths.{Lengths, length_in, found_length, reply_by, apply_length}
 use Rattle.store_core.specs.Lookups.{is_ok, is_change}
 use Rattle.store_core.specs.Note.{Note, Kind, note_of, refusal}
 use Rattle.store_core.specs.Replay.{FitsEvent, after_event, Replays}
+use Rattle.store_core.specs.RowLines.{client}
 use Rattle.store_core.specs.Shown.{shown}
 use Rattle.store_core.specs.Sound.{IsSound, lengths_of}
 use Rattle.history_laws.proofs.Points.{IsOfCall}
@@ -102,7 +102,7 @@ abbrev Shows : (Shown → Type 0) → Option Shown → Type 0
 Shows P None = ⊥
 Shows P (Some says) = P says
 
-record LineAt (lines : List HLine) (place : ℕ) (call : CallName) (P : Shown → Type 0) : Type 0 where
+record LineAt (lines : List HLine) (place : ℕ) (call : ClientCall) (P : Shown → Type 0) : Type 0 where
   line : HLine
   stands : Contains lines line
   at_place : line.point ≡ place
@@ -113,7 +113,7 @@ module _ (script : Script) (core : Core) where
   abbrev from : ℕ → Objects → List Point → List HLine
   from place objects points = history_from (size_of script) (call_of script) (answered_in core) place objects points
 
-  head_line : (P : Shown → Type 0) (place : ℕ) (call : CallName) (rest : List HLine) (nm : Option CallName) (says : Option Shown) → nm ≡ Some call → Shows P says → LineAt (line_of place nm says ++ rest) place call P
+  head_line : (P : Shown → Type 0) (place : ℕ) (call : ClientCall) (rest : List HLine) (nm : Option ClientCall) (says : Option Shown) → nm ≡ Some call → Shows P says → LineAt (line_of place nm says ++ rest) place call P
   head_line P place call rest None says e h = absurd (none-some call e)
   head_line P place call rest (Some other) None e h = absurd h
   head_line P place call rest (Some other) (Some says) e h =
@@ -125,7 +125,7 @@ module _ (script : Script) (core : Core) where
         says = h;
       }
 
-  line_from : (P : Shown → Type 0) (place : ℕ) (objects : Objects) (points : List Point) (at : ℕ) (point : Point) → slice_get points at ≡ Some point → (call : CallName) → name_of point.actor point.number ≡ Some call
+  line_from : (P : Shown → Type 0) (place : ℕ) (objects : Objects) (points : List Point) (at : ℕ) (point : Point) → slice_get points at ≡ Some point → (call : ClientCall) → client_call point.actor point.number ≡ Some call
       → ((mapped : Reply) → Shows P (shown_at point.event (answered_in core point.actor point.number) mapped)) → LineAt (from place objects points) (place + at) call P
   line_from P place objects [] at point e call named says = absurd (none-some point e)
   line_from P place objects (other ∷ points) zero point e call named says =
@@ -133,14 +133,14 @@ module _ (script : Script) (core : Core) where
       let after : Objects × Reply = applied (size_of script) objects other.event (call_of script other.actor other.number) in
       let here : place ≡ place + 0 = omega arith in
       subst (λ n. LineAt (from place objects (other ∷ points)) n call P) here
-      (head_line P place call (from (place + 1) after.0 points) (name_of other.actor other.number) (shown_at other.event (answered_in core other.actor other.number) after.1)
-      (subst (λ (p : Point). name_of p.actor p.number ≡ Some call) (sym same) named)
+      (head_line P place call (from (place + 1) after.0 points) (client_call other.actor other.number) (shown_at other.event (answered_in core other.actor other.number) after.1)
+      (subst (λ (p : Point). client_call p.actor p.number ≡ Some call) (sym same) named)
       (subst (λ (p : Point). Shows P (shown_at p.event (answered_in core p.actor p.number) after.1)) (sym same) (says after.1)))
   line_from P place objects (other ∷ points) (suc at) point e call named says =
       let after : Objects × Reply = applied (size_of script) objects other.event (call_of script other.actor other.number) in
       let here : place + 1 + at ≡ place + suc at = omega arith in
       subst (λ n. LineAt (from place objects (other ∷ points)) n call P) here
-      (later (line_of place (name_of other.actor other.number) (shown_at other.event (answered_in core other.actor other.number) after.1)) (from (place + 1) after.0 points)
+      (later (line_of place (client_call other.actor other.number) (shown_at other.event (answered_in core other.actor other.number) after.1)) (from (place + 1) after.0 points)
       (line_from P (place + 1) after.0 points at point e call named says))
     where
       later : (some rest : List HLine) → LineAt rest (place + 1 + at) call P → LineAt (some ++ rest) (place + 1 + at) call P
@@ -184,8 +184,8 @@ module _ (script : Script) (core : Core) where
 
         of_call : IsOfCall script is.point → (who : Actor) → is.point.actor ≡ who → is_change_point script (shown script core) object place ≡ true
         of_call of (actor.Client i) mine =
-            let line : LineAt (history_of script core) (0 + place) (name.Client i is.point.number) (λ says. is_effect says ≡ true) =
-            line_from (λ says. is_effect says ≡ true) 0 [] core.directory.points place is.point is.found (name.Client i is.point.number) (ap (λ a. name_of a is.point.number) mine)
+            let line : LineAt (history_of script core) (0 + place) (client i is.point.number) (λ says. is_effect says ≡ true) =
+            line_from (λ says. is_effect says ≡ true) 0 [] core.directory.points place is.point is.found (client i is.point.number) (ap (λ a. client_call a is.point.number) mine)
             (λ mapped. effect_shown is.point.event (answered_in core is.point.actor is.point.number) mapped parts.1) in
             let at : (k : ℕ) × (slice_get (history_of script core) k ≡ Some line.line) = at_contains (history_of script core) line.line line.stands in
             let replay : (l : Lengths) × FitsEvent is.point.event is.point.note.kind (apply_length core.directory.max is.point.note l).1 =

@@ -15,13 +15,12 @@ use Rattle.store_map.specs.declared.placement.Found.TheVariants as found
 use Rattle.store_map.specs.declared.placement.Placement.TheVariants as placement
 use Rattle.store_map.specs.declared.script.Script.{Script}
 use Rattle.store_map.specs.declared.call_name.CallName.{CallName}
-use Rattle.hist_rules.specs.Calls.{rebuild_of}
 use Rattle.store_core.specs.Act.{Act, Outcome, ServerStep}
 use Rattle.store_core.specs.NextAct.{Job}
 use Rattle.store_core.specs.Told.{Told}
 use Rattle.run_laws.specs.ToldInSteps.{act_after}
 use Rattle.run_laws.proofs.SoundLists.{all_by, in_filter, filtered}
-use Rattle.history_laws.specs.LineCauses.{job_of_call}
+use Rattle.history_laws.specs.LineCauses.{job_of_call, rebuild_named}
 use Rattle.history_laws.specs.LostChunks.{AsksFor}
 use Rattle.history_laws.specs.Moments.{Happened, IsOf}
 use Rattle.history_laws.specs.Trace.{Made}
@@ -168,7 +167,7 @@ module _ (script : Script) (trace : List Made) (call : CallName) where
   )
 
   reached : Decides facts.reached (¬ TargetWasAway script trace call)
-  reached = by (rebuild_of script call) refl
+  reached = by (rebuild_named script call) refl
     where
       test : Rebuild → Made → Bool
       test rebuild made = is_reached rebuild.server made.act made.answer
@@ -188,7 +187,7 @@ module _ (script : Script) (trace : List Made) (call : CallName) where
           let so = unreached rebuild.server made.act made.answer e in
           none (happened (Goes rebuild) trace made own.0 (is_of call made own.1, so.0, so.1)))
 
-      by : (asked : Option Rebuild) → rebuild_of script call ≡ asked → Decides (option_map_or (λ rebuild. list_all (test rebuild) (steps_of call trace)) asked true) (¬ TargetWasAway script trace call)
+      by : (asked : Option Rebuild) → rebuild_named script call ≡ asked → Decides (option_map_or (λ rebuild. list_all (test rebuild) (steps_of call trace)) asked true) (¬ TargetWasAway script trace call)
       by None e = (λ t h. none-some h.0 (sym e ∙ h.1), λ none. refl)
       by (Some rebuild) e = (
         λ all h. away rebuild all (subst (λ (one : Rebuild). Happened trace (λ before made. Goes one made)) (same_Some h.0 rebuild (sym h.1 ∙ e)) h.2),

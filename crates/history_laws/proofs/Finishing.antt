@@ -8,13 +8,12 @@ use Rattle.store_map.specs.declared.actor.Token.TheVariants as token
 use Rattle.store_map.specs.declared.script.ClientPart.{ClientPart}
 use Rattle.store_map.specs.declared.script.RepairPart.{RepairPart}
 use Rattle.store_map.specs.declared.script.Script.{Script}
-use Rattle.store_map.specs.declared.call_name.CallName.TheVariants as name
 use Rattle.hist_rules.specs.Finished.{kept_calls, Finished}
 use Rattle.hist_rules.specs.Named.{answered_calls}
 use Rattle.store_core.specs.Core.{Core, sweeper_has_step}
 use Rattle.store_core.specs.NextAct.{job_of, rebuild_job}
 use Rattle.store_core.specs.Schedule.{is_unfinished, run_core}
-use Rattle.store_core.specs.Shown.{shown}
+use Rattle.store_core.specs.Shown.{shown, client_name, repairer_name}
 use Rattle.store_core.specs.Work.{Work, Calling, client_work, repairer_work, is_abandoned, has_step, any_has_step}
 use Rattle.run_laws.proofs.Drains.{drains_end}
 use Rattle.history_laws.specs.HistoryLaws.{RunsFinish}
@@ -72,7 +71,7 @@ kept_ended calls (Some limit) work c same is e number low = by (is_left work c e
     by (inr one) = let left : length work.jobs - length c.ended ≡ 1 = one.0 in omega (arith, left, same, low)
 
 module _ (script : Script) (core : Core) (known : EndKnown script core) (client_quiet : any_has_step (client_work script) core.clients ≡ false) (repairer_quiet : any_has_step (repairer_work script) core.repairers ≡ false) where
-  client_done : (i number : ℕ) (part : ClientPart) → slice_get script.clients i ≡ Some part → number < kept_calls part.calls part.leave → Contains (answered_calls (shown script core)) (name.Client i number)
+  client_done : (i number : ℕ) (part : ClientPart) → slice_get script.clients i ≡ Some part → number < kept_calls part.calls part.leave → Contains (answered_calls (shown script core)) (client_name i number)
   client_done i number part is low =
       let work : Work = record { jobs = map job_of part.calls; leave = part.leave } in
       let is_work : slice_get (client_work script) i ≡ Some work = slice_get-map (λ (p : ClientPart). record { jobs = map job_of p.calls; leave = p.leave }) script.clients i ∙ ap (option_map (λ (p : ClientPart). record { jobs = map job_of p.calls; leave = p.leave })) is in
@@ -80,9 +79,9 @@ module _ (script : Script) (core : Core) (known : EndKnown script core) (client_
       inside core.clients i (let below : i < length script.clients = slice_get_within script.clients i part is in let same : length core.clients ≡ length script.clients = known.kept.keeps.client_count in omega (arith, below, same)) in
       let ended : number < length there.0.ended =
       kept_ended part.calls part.leave work there.0 (length-map part.calls job_of) refl (no_step (client_work script) core.clients client_quiet i work there.0 is_work there.1) number low in
-      ended_answered script core known (name.Client i number) (subst (λ o. number < ended_of o) (sym there.1) ended)
+      ended_answered script core known (client_name i number) (subst (λ o. number < ended_of o) (sym there.1) ended)
 
-  repairer_done : (i number : ℕ) (part : RepairPart) → slice_get script.repairers i ≡ Some part → number < kept_calls part.calls part.leave → Contains (answered_calls (shown script core)) (name.Repairer i number)
+  repairer_done : (i number : ℕ) (part : RepairPart) → slice_get script.repairers i ≡ Some part → number < kept_calls part.calls part.leave → Contains (answered_calls (shown script core)) (repairer_name i number)
   repairer_done i number part is low =
       let work : Work = record { jobs = map rebuild_job part.calls; leave = part.leave } in
       let is_work : slice_get (repairer_work script) i ≡ Some work = slice_get-map (λ (p : RepairPart). record { jobs = map rebuild_job p.calls; leave = p.leave }) script.repairers i ∙ ap (option_map (λ (p : RepairPart). record { jobs = map rebuild_job p.calls; leave = p.leave })) is in
@@ -90,13 +89,13 @@ module _ (script : Script) (core : Core) (known : EndKnown script core) (client_
       inside core.repairers i (let below : i < length script.repairers = slice_get_within script.repairers i part is in let same : length core.repairers ≡ length script.repairers = known.kept.keeps.repairer_count in omega (arith, below, same)) in
       let ended : number < length there.0.ended =
       kept_ended part.calls part.leave work there.0 (length-map part.calls rebuild_job) refl (no_step (repairer_work script) core.repairers repairer_quiet i work there.0 is_work there.1) number low in
-      ended_answered script core known (name.Repairer i number) (subst (λ o. number < ended_of o) (sym there.1) ended)
+      ended_answered script core known (repairer_name i number) (subst (λ o. number < ended_of o) (sym there.1) ended)
 
-  if_client : (i number : ℕ) (found : Option ClientPart) → slice_get script.clients i ≡ found → IfSome found (λ part. number < kept_calls part.calls part.leave → Contains (answered_calls (shown script core)) (name.Client i number))
+  if_client : (i number : ℕ) (found : Option ClientPart) → slice_get script.clients i ≡ found → IfSome found (λ part. number < kept_calls part.calls part.leave → Contains (answered_calls (shown script core)) (client_name i number))
   if_client i number None is = tt
   if_client i number (Some part) is = client_done i number part is
 
-  if_repairer : (i number : ℕ) (found : Option RepairPart) → slice_get script.repairers i ≡ found → IfSome found (λ part. number < kept_calls part.calls part.leave → Contains (answered_calls (shown script core)) (name.Repairer i number))
+  if_repairer : (i number : ℕ) (found : Option RepairPart) → slice_get script.repairers i ≡ found → IfSome found (λ part. number < kept_calls part.calls part.leave → Contains (answered_calls (shown script core)) (repairer_name i number))
   if_repairer i number None is = tt
   if_repairer i number (Some part) is = repairer_done i number part is
 

@@ -1,5 +1,5 @@
 -- What a run shows of calls that were unavailable: each server that they name was away, or had lost its chunk.
-use Rattle.std.proofs.Common.{◌≡◌, ◌≢◌, ℕ, suc, ◌+◌, ◌^◌, ◌<◌, ◌≤◌, Bool, true, false, cond, List, [], ◌∷◌, ◌++◌, length, map, flat_map, fold, count_by, Option, Some, All, ◌⊎◌, inl, inr, refl, sym, ap, subst, ◌∙◌, arith, true≢false, length-append}
+use Rattle.std.proofs.Common.{◌≡◌, ◌≢◌, ℕ, suc, ◌+◌, ◌<◌, ◌≤◌, Bool, true, false, cond, List, [], ◌∷◌, ◌++◌, length, map, flat_map, fold, count_by, Option, Some, All, ◌⊎◌, inl, inr, refl, sym, ap, subst, ◌∙◌, arith, true≢false, length-append}
 use Rattle.std.proofs.lemmas.Bool.{eq-eqb}
 use Rattle.std.proofs.lemmas.List.{length-map}
 use Rattle.std.proofs.lemmas.List.Elements.{All-nil, All-cons, All-head, All-tail, All-append, All-weaker}
@@ -38,8 +38,9 @@ use Rattle.store_core.specs.NextAct.{Job}
 use Rattle.store_core.specs.Note.{Kind, note_of}
 use Rattle.store_core.specs.Outcomes.{triple_of, cause_of, result_of}
 use Rattle.store_core.specs.Placements.{skipped_from}
+use Rattle.store_core.specs.RowLines.{client, repair}
 use Rattle.store_core.specs.Schedule.{run_core}
-use Rattle.store_core.specs.Shown.{shown, refused_line, repair_line, lines_of_ended}
+use Rattle.store_core.specs.Shown.{shown, refused_line, repair_line, lines_of_ended, client_name, repairer_name}
 use Rattle.store_core.specs.Tell.{tell}
 use Rattle.store_core.specs.Told.{Told, Seen, Lost}
 use Rattle.store_core.specs.Work.{Ended, Work, Calling, client_work, repairer_work}
@@ -268,7 +269,7 @@ module _ (script : Script) (geometry : IsGeometry script.geometry) (valid : IsVa
       }
 
   client_lacks : (i : ℕ) (c : Calling) → slice_get core.clients i ≡ Some c → (number : ℕ) (e : Ended) → slice_get c.ended number ≡ Some e → (stripe : ℕ) (missing : List Lost) → e.outcome ≡ Outcome.Unavailable stripe missing
-      → LacksChunks script (name.Client i number) (map triple_of missing)
+      → LacksChunks script (client_name i number) (map triple_of missing)
   client_lacks i c is_c number e is_e stripe missing is =
       let work : (w : Work) × (slice_get (client_work script) i ≡ Some w) = client_has script core known i c is_c in
       let most_calls : length c.ended ≤ length work.0.jobs = (known.calls.clients i c is_c work.0 work.1).below in
@@ -284,44 +285,44 @@ module _ (script : Script) (geometry : IsGeometry script.geometry) (valid : IsVa
       let same_kind : job.0.note.kind ≡ (note_of of.call).kind = ap (λ (j : Job). j.note.kind) (sym of.is_job) in
       let asked : asks_for_chunks script.form of.call ≡ true =
       asks of.call (subst MayBeReaped same_kind may) (λ puts. form_two job.0 (same_kind ∙ puts) stripe missing sure_of so.answers caused.1) in
-      lacking (name.Client i number) (ap (λ (o : Option Call). option_map_or (asks_for_chunks script.form) o false) of.is_call ∙ asked) stripe missing sure_of
+      lacking (client_name i number) (ap (λ (o : Option Call). option_map_or (asks_for_chunks script.form) o false) of.is_call ∙ asked) stripe missing sure_of
 
   repairer_lacks : (i : ℕ) (c : Calling) → slice_get core.repairers i ≡ Some c → (number : ℕ) (e : Ended) → slice_get c.ended number ≡ Some e → (stripe : ℕ) (missing : List Lost) → e.outcome ≡ Outcome.Unavailable stripe missing
-      → LacksChunks script (name.Repairer i number) (map triple_of missing)
+      → LacksChunks script (repairer_name i number) (map triple_of missing)
   repairer_lacks i c is_c number e is_e stripe missing is =
       let work : (w : Work) × (slice_get (repairer_work script) i ≡ Some w) = repairer_has script core known i c is_c in
       let sure_of : SureOf (Outcome.Unavailable stripe missing) = subst SureOf is ((sure.repairers i c is_c work.0 work.1).ended number e is_e) in
-      lacking (name.Repairer i number) refl stripe missing sure_of
+      lacking (repairer_name i number) refl stripe missing sure_of
 
   abbrev Q : CallName × List Triple → Type 0
   Q entry = LacksChunks script entry.0 entry.1
 
   abbrev OfRefused : XLine → Type 0
-  OfRefused line = All Q (missing_of_cause line.call line.cause)
+  OfRefused line = All Q (missing_of_cause (name.Client line.call) line.cause)
 
   abbrev OfRepair : RLine → Type 0
-  OfRepair line = All Q (missing_of_result line.call line.result)
+  OfRepair line = All Q (missing_of_result (name.Repairer line.call) line.result)
 
-  refused_so : (i number : ℕ) (outcome : Outcome) → ((stripe : ℕ) (missing : List Lost) → outcome ≡ Outcome.Unavailable stripe missing → LacksChunks script (name.Client i number) (map triple_of missing))
-      → All OfRefused (refused_line (name.Client i number) (cause_of outcome))
+  refused_so : (i number : ℕ) (outcome : Outcome) → ((stripe : ℕ) (missing : List Lost) → outcome ≡ Outcome.Unavailable stripe missing → LacksChunks script (client_name i number) (map triple_of missing))
+      → All OfRefused (refused_line (client i number) (cause_of outcome))
   refused_so i number (Outcome.Unavailable stripe missing) h =
-      All-cons OfRefused (record { call = name.Client i number; cause = cause.Unavailable stripe (map triple_of missing) }) [] (All-cons Q (name.Client i number, map triple_of missing) [] (h stripe missing refl) (All-nil Q)) (All-nil OfRefused)
-  refused_so i number (Outcome.Contended pairs) h = All-cons OfRefused (record { call = name.Client i number; cause = cause.Contended pairs }) [] (All-nil Q) (All-nil OfRefused)
-  refused_so i number (Outcome.Reaped point) h = All-cons OfRefused (record { call = name.Client i number; cause = cause.Reaped point }) [] (All-nil Q) (All-nil OfRefused)
-  refused_so i number Outcome.NoMemory h = All-cons OfRefused (record { call = name.Client i number; cause = cause.NoMemory }) [] (All-nil Q) (All-nil OfRefused)
+      All-cons OfRefused (record { call = client i number; cause = cause.Unavailable stripe (map triple_of missing) }) [] (All-cons Q (client_name i number, map triple_of missing) [] (h stripe missing refl) (All-nil Q)) (All-nil OfRefused)
+  refused_so i number (Outcome.Contended pairs) h = All-cons OfRefused (record { call = client i number; cause = cause.Contended pairs }) [] (All-nil Q) (All-nil OfRefused)
+  refused_so i number (Outcome.Reaped point) h = All-cons OfRefused (record { call = client i number; cause = cause.Reaped point }) [] (All-nil Q) (All-nil OfRefused)
+  refused_so i number Outcome.NoMemory h = All-cons OfRefused (record { call = client i number; cause = cause.NoMemory }) [] (All-nil Q) (All-nil OfRefused)
   refused_so i number outcome h = All-nil OfRefused
 
-  repair_so : (i number : ℕ) (outcome : Outcome) → ((stripe : ℕ) (missing : List Lost) → outcome ≡ Outcome.Unavailable stripe missing → LacksChunks script (name.Repairer i number) (map triple_of missing))
-      → All OfRepair (repair_line (name.Repairer i number) (result_of outcome))
+  repair_so : (i number : ℕ) (outcome : Outcome) → ((stripe : ℕ) (missing : List Lost) → outcome ≡ Outcome.Unavailable stripe missing → LacksChunks script (repairer_name i number) (map triple_of missing))
+      → All OfRepair (repair_line (repair i number) (result_of outcome))
   repair_so i number (Outcome.Unavailable stripe missing) h =
-      All-cons OfRepair (record { call = name.Repairer i number; result = result.Unavailable stripe (map triple_of missing) }) [] (All-cons Q (name.Repairer i number, map triple_of missing) [] (h stripe missing refl) (All-nil Q)) (All-nil OfRepair)
-  repair_so i number Outcome.Rebuilt h = All-cons OfRepair (record { call = name.Repairer i number; result = result.Rebuilt }) [] (All-nil Q) (All-nil OfRepair)
-  repair_so i number Outcome.Here h = All-cons OfRepair (record { call = name.Repairer i number; result = result.Here }) [] (All-nil Q) (All-nil OfRepair)
-  repair_so i number Outcome.NoSuch h = All-cons OfRepair (record { call = name.Repairer i number; result = result.NoSuch }) [] (All-nil Q) (All-nil OfRepair)
-  repair_so i number (Outcome.Away told) h = All-cons OfRepair (record { call = name.Repairer i number; result = result.Away told }) [] (All-nil Q) (All-nil OfRepair)
-  repair_so i number (Outcome.Superseded newer) h = All-cons OfRepair (record { call = name.Repairer i number; result = result.Superseded newer }) [] (All-nil Q) (All-nil OfRepair)
-  repair_so i number (Outcome.Reaped point) h = All-cons OfRepair (record { call = name.Repairer i number; result = result.Reaped point }) [] (All-nil Q) (All-nil OfRepair)
-  repair_so i number Outcome.NoMemory h = All-cons OfRepair (record { call = name.Repairer i number; result = result.NoMemory }) [] (All-nil Q) (All-nil OfRepair)
+      All-cons OfRepair (record { call = repair i number; result = result.Unavailable stripe (map triple_of missing) }) [] (All-cons Q (repairer_name i number, map triple_of missing) [] (h stripe missing refl) (All-nil Q)) (All-nil OfRepair)
+  repair_so i number Outcome.Rebuilt h = All-cons OfRepair (record { call = repair i number; result = result.Rebuilt }) [] (All-nil Q) (All-nil OfRepair)
+  repair_so i number Outcome.Here h = All-cons OfRepair (record { call = repair i number; result = result.Here }) [] (All-nil Q) (All-nil OfRepair)
+  repair_so i number Outcome.NoSuch h = All-cons OfRepair (record { call = repair i number; result = result.NoSuch }) [] (All-nil Q) (All-nil OfRepair)
+  repair_so i number (Outcome.Away told) h = All-cons OfRepair (record { call = repair i number; result = result.Away told }) [] (All-nil Q) (All-nil OfRepair)
+  repair_so i number (Outcome.Superseded newer) h = All-cons OfRepair (record { call = repair i number; result = result.Superseded newer }) [] (All-nil Q) (All-nil OfRepair)
+  repair_so i number (Outcome.Reaped point) h = All-cons OfRepair (record { call = repair i number; result = result.Reaped point }) [] (All-nil Q) (All-nil OfRepair)
+  repair_so i number Outcome.NoMemory h = All-cons OfRepair (record { call = repair i number; result = result.NoMemory }) [] (All-nil Q) (All-nil OfRepair)
   repair_so i number (Outcome.Answered point given) h = All-nil OfRepair
   repair_so i number (Outcome.Served point) h = All-nil OfRepair
   repair_so i number (Outcome.Contended pairs) h = All-nil OfRepair
@@ -332,16 +333,16 @@ module _ (script : Script) (geometry : IsGeometry script.geometry) (valid : IsVa
 
   pub found_missing : FoundMissing script (shown script core)
   found_missing =
-      All-append Q (flat_map (λ (line : XLine). missing_of_cause line.call line.cause) (shown script core).refused) (flat_map (λ (line : RLine). missing_of_result line.call line.result) (shown script core).repairs)
-      (all_flat (λ (line : XLine). missing_of_cause line.call line.cause) (shown script core).refused
-      (all_indexed (λ j. lines_of_ended (λ number ended. refused_line (name.Client j number) (cause_of ended.outcome))) OfRefused core.clients
+      All-append Q (flat_map (λ (line : XLine). missing_of_cause (name.Client line.call) line.cause) (shown script core).refused) (flat_map (λ (line : RLine). missing_of_result (name.Repairer line.call) line.result) (shown script core).repairs)
+      (all_flat (λ (line : XLine). missing_of_cause (name.Client line.call) line.cause) (shown script core).refused
+      (all_indexed (λ j. lines_of_ended (λ number ended. refused_line (client j number) (cause_of ended.outcome))) OfRefused core.clients
       (λ i c is_c.
-      all_indexed (λ number ended. refused_line (name.Client i number) (cause_of ended.outcome)) OfRefused c.ended
+      all_indexed (λ number ended. refused_line (client i number) (cause_of ended.outcome)) OfRefused c.ended
       (λ number e is_e. refused_so i number e.outcome (λ stripe missing is. client_lacks i c is_c number e is_e stripe missing is)))))
-      (all_flat (λ (line : RLine). missing_of_result line.call line.result) (shown script core).repairs
-      (all_indexed (λ j. lines_of_ended (λ number ended. repair_line (name.Repairer j number) (result_of ended.outcome))) OfRepair core.repairers
+      (all_flat (λ (line : RLine). missing_of_result (name.Repairer line.call) line.result) (shown script core).repairs
+      (all_indexed (λ j. lines_of_ended (λ number ended. repair_line (repair j number) (result_of ended.outcome))) OfRepair core.repairers
       (λ i c is_c.
-      all_indexed (λ number ended. repair_line (name.Repairer i number) (result_of ended.outcome)) OfRepair c.ended
+      all_indexed (λ number ended. repair_line (repair i number) (result_of ended.outcome)) OfRepair c.ended
       (λ number e is_e. repair_so i number e.outcome (λ stripe missing is. repairer_lacks i c is_c number e is_e stripe missing is)))))
 
 pub runs_find_missing : RunsFindMissing

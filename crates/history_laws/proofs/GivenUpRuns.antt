@@ -11,7 +11,6 @@ use Rattle.store_map.specs.declared.actor.Actor.TheVariants as actor
 use Rattle.store_map.specs.declared.actor.Token.{Token}
 use Rattle.store_map.specs.declared.actor.Token.TheVariants as token
 use Rattle.store_map.specs.declared.script.Script.{Script}
-use Rattle.store_map.specs.declared.call_name.CallName.TheVariants as name
 use Rattle.store_map.specs.declared.cause.Cause.TheVariants as cause
 use Rattle.store_map.specs.declared.cause.RepairResult.TheVariants as result
 use Rattle.store_map.specs.declared.line.XLine.{XLine}
@@ -34,6 +33,7 @@ use Rattle.store_core.specs.Work.{Ended, Calling, new_calling}
 use Rattle.run_laws.specs.Answers.{Answers}
 use Rattle.run_laws.specs.CallLeft.{pin_bound}
 use Rattle.store_core.specs.Bounds.{touched_count}
+use Rattle.store_core.specs.RowLines.{client, repair}
 use Rattle.run_laws.specs.CauseLaws.{IsCaused}
 use Rattle.run_laws.specs.GatherLaws.{Tells}
 use Rattle.run_laws.proofs.Carried.{AnyTells, tells_carried, told_back}
@@ -45,7 +45,6 @@ use Rattle.run_laws.proofs.OwnPasses.{step_moves}
 use Rattle.run_laws.proofs.Runs.{CanRun}
 use Rattle.run_laws.proofs.RunsSound.{RunKeeps}
 use Rattle.run_laws.proofs.Scripts.{replicated}
-use Rattle.hist_rules.specs.Calls.{same_actor as same_caller}
 use Rattle.hist_rules.specs.GivenUp.{is_reaped_cause, is_reaped_result}
 use Rattle.history_laws.proofs.Naming.{gives_up, reaps}
 use Rattle.history_laws.proofs.ActorLines.{each_changed, lines_bounded}
@@ -368,16 +367,16 @@ not_equal i j differ true e = absurd (differ (eqb-true i j e))
 not_equal i j differ false e = refl
 
 abbrev pub refused_test : ℕ → XLine → Bool
-refused_test i line = is_reaped_cause line.cause && same_caller (name.Client i 0) line.call
+refused_test i line = is_reaped_cause line.cause && nat_eq i line.call.client
 
 abbrev pub refused_of : ℕ → ℕ → Ended → List XLine
-refused_of j number ended = refused_line (name.Client j number) (cause_of ended.outcome)
+refused_of j number ended = refused_line (client j number) (cause_of ended.outcome)
 
 abbrev pub repair_test : ℕ → RLine → Bool
-repair_test i line = is_reaped_result line.result && same_caller (name.Repairer i 0) line.call
+repair_test i line = is_reaped_result line.result && nat_eq i line.call.repairer
 
 abbrev pub repairs_of : ℕ → ℕ → Ended → List RLine
-repairs_of j number ended = repair_line (name.Repairer j number) (result_of ended.outcome)
+repairs_of j number ended = repair_line (repair j number) (result_of ended.outcome)
 
 small : {X : Type 0} (b : Bool) (x : X) → length (cond {A = List X} b (x ∷ []) []) ≤ 1
 small true x = omega arith
@@ -386,7 +385,7 @@ small false x = omega arith
 own_refused : (i number : ℕ) (ended : Ended) → length (filter (refused_test i) (refused_of i number ended)) ≤ weight ended
 own_refused i number ended = by ended.outcome
   where
-    by : (outcome : Outcome) → length (filter (refused_test i) (refused_line (name.Client i number) (cause_of outcome))) ≤ once_reaped outcome
+    by : (outcome : Outcome) → length (filter (refused_test i) (refused_line (client i number) (cause_of outcome))) ≤ once_reaped outcome
     by (Outcome.Reaped point) = small (nat_eq i i) _
     by (Outcome.Answered point given) = omega arith
     by (Outcome.Served point) = omega arith
@@ -402,8 +401,8 @@ own_refused i number ended = by ended.outcome
 other_refused : (i j : ℕ) → (i ≡ j → ⊥) → (number : ℕ) (ended : Ended) → length (filter (refused_test i) (refused_of j number ended)) ≡ 0
 other_refused i j differ number ended = by ended.outcome
   where
-    by : (outcome : Outcome) → length (filter (refused_test i) (refused_line (name.Client j number) (cause_of outcome))) ≡ 0
-    by (Outcome.Reaped point) = ap (λ b. length (cond {A = List XLine} b (record { call = name.Client j number; cause = cause.Reaped point } ∷ []) [])) (not_equal i j differ (nat_eq i j) refl)
+    by : (outcome : Outcome) → length (filter (refused_test i) (refused_line (client j number) (cause_of outcome))) ≡ 0
+    by (Outcome.Reaped point) = ap (λ b. length (cond {A = List XLine} b (record { call = client j number; cause = cause.Reaped point } ∷ []) [])) (not_equal i j differ (nat_eq i j) refl)
     by (Outcome.Answered point given) = refl
     by (Outcome.Served point) = refl
     by Outcome.Rebuilt = refl
@@ -418,7 +417,7 @@ other_refused i j differ number ended = by ended.outcome
 own_repairs : (i number : ℕ) (ended : Ended) → length (filter (repair_test i) (repairs_of i number ended)) ≤ weight ended
 own_repairs i number ended = by ended.outcome
   where
-    by : (outcome : Outcome) → length (filter (repair_test i) (repair_line (name.Repairer i number) (result_of outcome))) ≤ once_reaped outcome
+    by : (outcome : Outcome) → length (filter (repair_test i) (repair_line (repair i number) (result_of outcome))) ≤ once_reaped outcome
     by (Outcome.Reaped point) = small (nat_eq i i) _
     by (Outcome.Answered point given) = omega arith
     by (Outcome.Served point) = omega arith
@@ -434,8 +433,8 @@ own_repairs i number ended = by ended.outcome
 other_repairs : (i j : ℕ) → (i ≡ j → ⊥) → (number : ℕ) (ended : Ended) → length (filter (repair_test i) (repairs_of j number ended)) ≡ 0
 other_repairs i j differ number ended = by ended.outcome
   where
-    by : (outcome : Outcome) → length (filter (repair_test i) (repair_line (name.Repairer j number) (result_of outcome))) ≡ 0
-    by (Outcome.Reaped point) = ap (λ b. length (cond {A = List RLine} b (record { call = name.Repairer j number; result = result.Reaped point } ∷ []) [])) (not_equal i j differ (nat_eq i j) refl)
+    by : (outcome : Outcome) → length (filter (repair_test i) (repair_line (repair j number) (result_of outcome))) ≡ 0
+    by (Outcome.Reaped point) = ap (λ b. length (cond {A = List RLine} b (record { call = repair j number; result = result.Reaped point } ∷ []) [])) (not_equal i j differ (nat_eq i j) refl)
     by (Outcome.Answered point given) = refl
     by (Outcome.Served point) = refl
     by Outcome.Rebuilt = refl

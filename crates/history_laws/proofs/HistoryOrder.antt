@@ -1,5 +1,5 @@
 -- The lines of a history are of calls of the script, with rising points and each client's calls in their order.
-use Rattle.std.proofs.Common.{◌≡◌, ◌≢◌, ℕ, zero, suc, ◌+◌, ◌<◌, ◌≤◌, Bool, true, false, cond, nat_eq, true≢false, find, IfSome, List, [], ◌∷◌, ◌++◌, length, get_or, Option, None, Some, All, AllPairs, IsTrue, inl, inr, refl, sym, subst, arith}
+use Rattle.std.proofs.Common.{◌≡◌, ◌≢◌, ℕ, zero, suc, ◌+◌, ◌<◌, ◌≤◌, Bool, true, false, cond, nat_eq, find, IfSome, List, [], ◌∷◌, ◌++◌, length, get_or, Option, None, Some, All, AllPairs, IsTrue, inl, inr, refl, sym, subst, arith}
 use Rattle.std.proofs.lemmas.Option.{none-some, same_Some}
 use Rattle.std.proofs.lemmas.List.Elements.{All-nil, All-cons, All-head, All-tail, All-append, All-weaker}
 use Rattle.std.proofs.lemmas.Bool.{eqb-true, eq-eqb}
@@ -7,19 +7,18 @@ use Rattle.std.proofs.lemmas.List.Kept.{AllPairs-cons}
 use Rattle.std.specs.List.{slice_get}
 use Rattle.store_map.specs.Limits.{size_of}
 use Rattle.store_map.specs.PlainMap.{Objects}
-use Rattle.store_map.specs.declared.actor.Actor.{Actor}
 use Rattle.store_map.specs.declared.actor.Actor.TheVariants as actor
 use Rattle.store_map.specs.declared.reply.Reply.{Reply}
 use Rattle.store_map.specs.declared.actor.Token.{Token}
 use Rattle.store_map.specs.declared.script.ClientPart.{ClientPart}
 use Rattle.store_map.specs.declared.script.Script.{Script}
-use Rattle.store_map.specs.declared.call_name.CallName.{CallName}
+use Rattle.store_map.specs.declared.call_name.ClientCall.{ClientCall}
 use Rattle.store_map.specs.declared.call_name.CallName.TheVariants as name
 use Rattle.store_map.specs.declared.shown.Shown.{Shown}
 use Rattle.store_map.specs.declared.line.HLine.{HLine}
 use Rattle.store_core.specs.Core.{Core}
 use Rattle.store_core.specs.Directory.{Event, Point}
-use Rattle.store_core.specs.History.{call_of, answered_in, applied, shown_at, name_of, line_of, history_from, history_of}
+use Rattle.store_core.specs.History.{call_of, answered_in, applied, shown_at, client_call, line_of, history_from, history_of}
 use Rattle.store_core.specs.Lookups.{same_actor}
 use Rattle.store_core.specs.Schedule.{run_core}
 use Rattle.store_core.specs.Step.{Shortage}
@@ -27,10 +26,9 @@ use Rattle.store_core.specs.Sound.{AreInOrder}
 use Rattle.run_laws.proofs.Runs.{CanRun}
 use Rattle.run_laws.proofs.RunsSound.{RunKeeps}
 use Rattle.run_laws.proofs.SoundLists.{at_all}
-use Rattle.hist_rules.specs.Calls.{number_of, same_actor as same_caller}
 use Rattle.hist_rules.specs.CallOrder.{IsLater}
 use Rattle.hist_rules.specs.First.{AllAfter, AllAlong}
-use Rattle.history_laws.proofs.Naming.{IsCall, found_below}
+use Rattle.history_laws.proofs.Naming.{IsCall, found_below, named_client}
 use Rattle.history_laws.proofs.Induction.{run_has}
 use Rattle.history_laws.proofs.OrderLists.{after_pairs, none_before}
 use Rattle.history_laws.proofs.Points.{IsOfScript}
@@ -43,13 +41,13 @@ record OfPoint (place : ℕ) (points : List Point) (line : HLine) : Type 0 where
   point : Point
   found : slice_get points at ≡ Some point
   is_place : line.point ≡ place + at
-  named : name_of point.actor point.number ≡ Some line.call
+  named : client_call point.actor point.number ≡ Some line.call
   unreaped : point.event ≢ Event.Reaped
 
 shows : (event : Event) (answered : Bool) (mapped : Reply) (says : Shown) → shown_at event answered mapped ≡ Some says → event ≢ Event.Reaped
 shows event answered mapped says e is = none-some says (subst (λ m. shown_at m answered mapped ≡ Some says) is e)
 
-line_lines : (place : ℕ) (point : Point) (points : List Point) (answered : Bool) (mapped : Reply) (nm : Option CallName) (says : Option Shown) → name_of point.actor point.number ≡ nm → shown_at point.event answered mapped ≡ says
+line_lines : (place : ℕ) (point : Point) (points : List Point) (answered : Bool) (mapped : Reply) (nm : Option ClientCall) (says : Option Shown) → client_call point.actor point.number ≡ nm → shown_at point.event answered mapped ≡ says
     → All (OfPoint place (point ∷ points)) (line_of place nm says)
 line_lines place point points answered mapped None says e k = All-nil (OfPoint place (point ∷ points))
 line_lines place point points answered mapped (Some call) None e k = All-nil (OfPoint place (point ∷ points))
@@ -71,15 +69,15 @@ module _ (script : Script) (core : Core) where
   all_of_points place objects (point ∷ points) =
       let after : Objects × Reply = applied (size_of script) objects point.event (call_of script point.actor point.number) in
       let answered : Bool = answered_in core point.actor point.number in
-      All-append (OfPoint place (point ∷ points)) (line_of place (name_of point.actor point.number) (shown_at point.event answered after.1)) (from (place + 1) after.0 points)
-      (line_lines place point points answered after.1 (name_of point.actor point.number) (shown_at point.event answered after.1) refl refl)
+      All-append (OfPoint place (point ∷ points)) (line_of place (client_call point.actor point.number) (shown_at point.event answered after.1)) (from (place + 1) after.0 points)
+      (line_lines place point points answered after.1 (client_call point.actor point.number) (shown_at point.event answered after.1) refl refl)
       (All-weaker (OfPoint (place + 1) points) (OfPoint place (point ∷ points)) (λ line of. later_line place point points line of) (from (place + 1) after.0 points) (all_of_points (place + 1) after.0 points))
 
   -- ---- points rise
   abbrev Rises : HLine → HLine → Type 0
   Rises line later = line.point < later.point
 
-  before_rest : (place : ℕ) (nm : Option CallName) (says : Option Shown) (points : List Point) (rest : List HLine) → All (OfPoint (place + 1) points) rest → AllPairs Rises rest → AllPairs Rises (line_of place nm says ++ rest)
+  before_rest : (place : ℕ) (nm : Option ClientCall) (says : Option Shown) (points : List Point) (rest : List HLine) → All (OfPoint (place + 1) points) rest → AllPairs Rises rest → AllPairs Rises (line_of place nm says ++ rest)
   before_rest place None says points rest of rises = rises
   before_rest place (Some call) None points rest of rises = rises
   before_rest place (Some call) (Some says) points rest of rises =
@@ -93,7 +91,7 @@ module _ (script : Script) (core : Core) where
   all_rise place objects [] = none_rise
   all_rise place objects (point ∷ points) =
       let after : Objects × Reply = applied (size_of script) objects point.event (call_of script point.actor point.number) in
-      before_rest place (name_of point.actor point.number) (shown_at point.event (answered_in core point.actor point.number) after.1) points (from (place + 1) after.0 points)
+      before_rest place (client_call point.actor point.number) (shown_at point.event (answered_in core point.actor point.number) after.1) points (from (place + 1) after.0 points)
       (all_of_points (place + 1) after.0 points) (all_rise (place + 1) after.0 points)
 
 -- ---- calls
@@ -113,56 +111,33 @@ pair_at R xs i j x y pairs less e k =
     subst (λ a. R a y) (element xs i x x e) (subst (R (get_or xs i x)) (element xs j x y k) (pairs i j x less (within xs j y k)))
 
 -- of two lines of one caller the later one has the greater number
-abbrev pub NumberRises : CallName → CallName → Type 0
-NumberRises call later = same_caller later call ≡ true → number_of call < number_of later
-
-abbrev Goal : Option CallName → Option CallName → Type 0
-Goal (Some a) (Some b) = NumberRises a b
-Goal _ _ = Unit {0}
+abbrev pub NumberRises : ClientCall → ClientCall → Type 0
+NumberRises call later = nat_eq later.client call.client ≡ true → call.number < later.number
 
 turned : (i j : ℕ) → nat_eq j i ≡ true → nat_eq i j ≡ true
 turned i j e = eq-eqb i j (sym (eqb-true j i e))
 
-in_order : (p q : Point) (call later : CallName) → AreInOrder p q → p.event ≢ Event.Reaped → q.event ≢ Event.Reaped → name_of p.actor p.number ≡ Some call → name_of q.actor q.number ≡ Some later → NumberRises call later
-in_order p q call later order unreaped later_unreaped e k = by p.actor q.actor refl refl
-  where
-    less : IsTrue (same_actor p.actor q.actor) → p.number < q.number
-    less same = two (order.numbers same) (λ is. later_unreaped (order.once same is unreaped))
-      where
-        two : p.number ≤ q.number → (p.number ≡ q.number → ⊥) → p.number < q.number
-        two low differ = omega (arith, low, differ)
-
-    by : (a b : Actor) → p.actor ≡ a → q.actor ≡ b → NumberRises call later
-    by a b is_a is_b =
-        subst (λ o. Goal o (Some later)) e (subst (λ o. Goal (name_of p.actor p.number) o) k (subst (λ x. Goal (name_of x p.number) (name_of q.actor q.number)) (sym is_a)
-        (subst (λ y. Goal (name_of a p.number) (name_of y q.number)) (sym is_b) (named a b is_a is_b))))
-      where
-        named : (a b : Actor) → p.actor ≡ a → q.actor ≡ b → Goal (name_of a p.number) (name_of b q.number)
-        named (actor.Client i) (actor.Client j) x y = λ same. less (subst (λ c. IsTrue (same_actor c q.actor)) (sym x) (subst (λ c. IsTrue (same_actor (actor.Client i) c)) (sym y) (turned i j same)))
-        named (actor.Repairer i) (actor.Repairer j) x y = λ same. less (subst (λ c. IsTrue (same_actor c q.actor)) (sym x) (subst (λ c. IsTrue (same_actor (actor.Repairer i) c)) (sym y) (turned i j same)))
-        named (actor.Client i) (actor.Repairer j) x y = λ same. absurd (true≢false (sym same))
-        named (actor.Repairer i) (actor.Client j) x y = λ same. absurd (true≢false (sym same))
-        named (actor.Client i) actor.Sweeper x y = tt
-        named (actor.Client i) actor.Operator x y = tt
-        named (actor.Repairer i) actor.Sweeper x y = tt
-        named (actor.Repairer i) actor.Operator x y = tt
-        named actor.Sweeper b x y = tt
-        named actor.Operator b x y = tt
+in_order : (p q : Point) (call later : ClientCall) → AreInOrder p q → p.event ≢ Event.Reaped → q.event ≢ Event.Reaped → client_call p.actor p.number ≡ Some call → client_call q.actor q.number ≡ Some later → NumberRises call later
+in_order p q call later order unreaped later_unreaped e k same =
+    let first : (p.actor ≡ actor.Client call.client) × (p.number ≡ call.number) = named_client p.actor p.number call e in
+    let second : (q.actor ≡ actor.Client later.client) × (q.number ≡ later.number) = named_client q.actor q.number later k in
+    let one : IsTrue (same_actor p.actor q.actor) =
+    subst (λ a. IsTrue (same_actor a q.actor)) (sym first.0) (subst (λ a. IsTrue (same_actor (actor.Client call.client) a)) (sym second.0) (turned call.client later.client same)) in
+    let low : p.number ≤ q.number = order.numbers one in
+    let differ : p.number ≢ q.number = λ is. later_unreaped (order.once one is unreaped) in
+    omega (arith, low, differ, first.1, second.1)
 
 -- a line that is of a point of the script is of a call of it
-is_call : (script : Script) (point : Point) (call : CallName) → IsOfScript script point → point.event ≢ Event.Reaped → name_of point.actor point.number ≡ Some call → IsCall script call
+is_call : (script : Script) (point : Point) (call : ClientCall) → IsOfScript script point → point.event ≢ Event.Reaped → client_call point.actor point.number ≡ Some call → IsCall script (name.Client call)
 is_call script point call (inl reaped) unreaped e = absurd (unreaped reaped)
-is_call script point call (inr of) unreaped e = by point.actor of.is_call e
-  where
-    by : (who : Actor) → call_of script who point.number ≡ Some of.call → name_of who point.number ≡ Some call → IsCall script call
-    by (actor.Client i) is k = subst (IsCall script) (same_Some (name.Client i point.number) call k) (found_below (λ (p : ClientPart). p.calls) (slice_get script.clients i) point.number of.call is)
-    by (actor.Repairer i) is k = absurd (none-some of.call is)
-    by actor.Sweeper is k = absurd (none-some of.call is)
-    by actor.Operator is k = absurd (none-some of.call is)
+is_call script point call (inr of) unreaped e =
+    let named : (point.actor ≡ actor.Client call.client) × (point.number ≡ call.number) = named_client point.actor point.number call e in
+    found_below (λ (p : ClientPart). p.calls) (slice_get script.clients call.client) call.number of.call
+    (subst (λ n. call_of script (actor.Client call.client) n ≡ Some of.call) named.1 (subst (λ a. call_of script a point.number ≡ Some of.call) named.0 of.is_call))
 
 -- the lines of a history are in order
 pub record LinesInOrder (script : Script) (lines : List HLine) : Type 0 where
-  pub calls : All (λ (line : HLine). IsCall script line.call) lines
+  pub calls : All (λ (line : HLine). IsCall script (name.Client line.call)) lines
   pub points : AllPairs (λ (line later : HLine). line.point < later.point) lines
   pub numbers : AllPairs (λ (line later : HLine). NumberRises line.call later.call) lines
 
@@ -175,7 +150,7 @@ lines_in_order script can shortages tokens =
     let of : All (OfPoint 0 points) lines = all_of_points script core 0 [] points in
     let rise : AllPairs (Rises script core) lines = all_rise script core 0 [] points in
     record {
-      calls = All-weaker (OfPoint 0 points) (λ (line : HLine). IsCall script line.call) (λ line is. is_call script is.point line.call (at_all (IsOfScript script) points is.at is.point end.1 is.found) is.unreaped is.named) lines of;
+      calls = All-weaker (OfPoint 0 points) (λ (line : HLine). IsCall script (name.Client line.call)) (λ line is. is_call script is.point line.call (at_all (IsOfScript script) points is.at is.point end.1 is.found) is.unreaped is.named) lines of;
       points = rise;
       numbers = λ i j d less inside.
           let one : OfPoint 0 points (get_or lines i d) = of i d (omega (arith, less, inside)) in
@@ -205,7 +180,7 @@ rising before [] points numbers = tt
 rising before (line ∷ lines) points numbers = (
   record {
     point = first_all (λ (other : HLine). other.point < line.point) before points.0;
-    number = find_all (λ (other : HLine). same_caller line.call other.call) (λ (other : HLine). number_of other.call < number_of line.call) before numbers.0;
+    number = find_all (λ (other : HLine). nat_eq line.call.client other.call.client) (λ (other : HLine). other.call.number < line.call.number) before numbers.0;
   },
   rising (line ∷ before) lines points.1 numbers.1,
 )

@@ -103,7 +103,6 @@ mod BytesPinned
 pub mod Acts
 mod TargetsAway
 pub mod TakesOfRuns
-pub mod ClientLines
 mod NeverPrepares
 mod Refusals
 pub mod Ample

@@ -10,6 +10,8 @@ use Rattle.store_map.specs.declared.actor.Actor.TheVariants as actor
 use Rattle.store_map.specs.declared.actor.Token.{Token}
 use Rattle.store_map.specs.declared.placement.Placement.TheVariants as placement
 use Rattle.store_map.specs.declared.script.Script.{Script}
+use Rattle.store_map.specs.declared.call_name.ClientCall.{ClientCall}
+use Rattle.store_map.specs.declared.call_name.RepairCall.{RepairCall}
 use Rattle.store_map.specs.declared.call_name.CallName.{CallName}
 use Rattle.store_map.specs.declared.call_name.CallName.TheVariants as name
 use Rattle.store_map.specs.declared.cause.Triple.{Triple}
@@ -18,10 +20,10 @@ use Rattle.store_map.specs.declared.line.RLine.{RLine}
 use Rattle.store_core.specs.Act.{Act, DirectoryStep, Outcome}
 use Rattle.store_core.specs.Core.{Core, first_core}
 use Rattle.store_core.specs.Directory.{Directory}
-use Rattle.store_core.specs.History.{name_of}
 use Rattle.store_core.specs.Lookups.{pass_of}
 use Rattle.store_core.specs.NextAct.{Job}
 use Rattle.store_core.specs.Outcomes.{triple_of, cause_of, result_of}
+use Rattle.store_core.specs.RowLines.{client, repair}
 use Rattle.store_core.specs.Run.{places_in}
 use Rattle.store_core.specs.Schedule.{run_core}
 use Rattle.store_core.specs.Server.{Server}
@@ -43,7 +45,7 @@ use Rattle.history_laws.proofs.OrderLists.{all_indexed}
 use Rattle.history_laws.proofs.OrderRuns.{end_known}
 use Rattle.history_laws.proofs.VersionMoves.{StepChange, versions_move}
 use Rattle.history_laws.specs.Trace.{Made, call_made, act_made}
-use Rattle.history_laws.specs.Moments.{Happened, IsOf}
+use Rattle.history_laws.specs.Moments.{Happened, name_of, IsOf}
 use Rattle.history_laws.specs.LostChunks.{Looks, LacksIt, WasLost, WasSkipped, PlacesChunk as PlacesIt}
 use Rattle.history_laws.specs.LossesInTime.{WereMissing, WasAway, NamesLosses, ResultNamesLosses, HasLossesInTime}
 use Rattle.history_laws.specs.InTimeLaws.{RunsHaveLossesInTime}
@@ -199,29 +201,31 @@ module _ (trace : List Made) (who : Actor) (number : ℕ) (call : CallName) (nam
   away_so told h =
       weaker (OwnAway who number told) _ (λ before made k. (is_of made k.0, k.1)) trace h
 
+-- ---- one line
+module _ (trace : List Made) where
   abbrev Q : XLine → Type 0
-  Q line = NamesLosses trace line.call line.cause
+  Q line = NamesLosses trace (name.Client line.call) line.cause
 
-  refused_one : (outcome : Outcome) → LossesOf trace who number outcome → All Q (refused_line call (cause_of outcome))
-  refused_one (Outcome.Unavailable stripe missing) h = All-cons Q _ [] (missing_so stripe (map triple_of missing) h) (All-nil Q)
-  refused_one (Outcome.Contended pairs) h = All-cons Q _ [] tt (All-nil Q)
-  refused_one (Outcome.Reaped point) h = All-cons Q _ [] tt (All-nil Q)
-  refused_one Outcome.NoMemory h = All-cons Q _ [] tt (All-nil Q)
-  refused_one outcome h = All-nil Q
+  refused_one : (call : ClientCall) (outcome : Outcome) → LossesOf trace (actor.Client call.client) call.number outcome → All Q (refused_line call (cause_of outcome))
+  refused_one call (Outcome.Unavailable stripe missing) h = All-cons Q _ [] (missing_so trace (actor.Client call.client) call.number (name.Client call) refl stripe (map triple_of missing) h) (All-nil Q)
+  refused_one call (Outcome.Contended pairs) h = All-cons Q _ [] tt (All-nil Q)
+  refused_one call (Outcome.Reaped point) h = All-cons Q _ [] tt (All-nil Q)
+  refused_one call Outcome.NoMemory h = All-cons Q _ [] tt (All-nil Q)
+  refused_one call outcome h = All-nil Q
 
   abbrev R : RLine → Type 0
-  R line = ResultNamesLosses trace line.call line.result
+  R line = ResultNamesLosses trace (name.Repairer line.call) line.result
 
-  repair_one : (outcome : Outcome) → LossesOf trace who number outcome → All R (repair_line call (result_of outcome))
-  repair_one (Outcome.Unavailable stripe missing) h = All-cons R _ [] (missing_so stripe (map triple_of missing) h) (All-nil R)
-  repair_one (Outcome.Away told) h = All-cons R _ [] (away_so told h) (All-nil R)
-  repair_one (Outcome.Superseded newer) h = All-cons R _ [] tt (All-nil R)
-  repair_one (Outcome.Reaped point) h = All-cons R _ [] tt (All-nil R)
-  repair_one Outcome.Rebuilt h = All-cons R _ [] tt (All-nil R)
-  repair_one Outcome.Here h = All-cons R _ [] tt (All-nil R)
-  repair_one Outcome.NoSuch h = All-cons R _ [] tt (All-nil R)
-  repair_one Outcome.NoMemory h = All-cons R _ [] tt (All-nil R)
-  repair_one outcome h = All-nil R
+  repair_one : (call : RepairCall) (outcome : Outcome) → LossesOf trace (actor.Repairer call.repairer) call.number outcome → All R (repair_line call (result_of outcome))
+  repair_one call (Outcome.Unavailable stripe missing) h = All-cons R _ [] (missing_so trace (actor.Repairer call.repairer) call.number (name.Repairer call) refl stripe (map triple_of missing) h) (All-nil R)
+  repair_one call (Outcome.Away told) h = All-cons R _ [] (away_so trace (actor.Repairer call.repairer) call.number (name.Repairer call) refl told h) (All-nil R)
+  repair_one call (Outcome.Superseded newer) h = All-cons R _ [] tt (All-nil R)
+  repair_one call (Outcome.Reaped point) h = All-cons R _ [] tt (All-nil R)
+  repair_one call Outcome.Rebuilt h = All-cons R _ [] tt (All-nil R)
+  repair_one call Outcome.Here h = All-cons R _ [] tt (All-nil R)
+  repair_one call Outcome.NoSuch h = All-cons R _ [] tt (All-nil R)
+  repair_one call Outcome.NoMemory h = All-cons R _ [] tt (All-nil R)
+  repair_one call outcome h = All-nil R
 
 -- ---- all lines
 module _ (script : Script) (trace : List Made) (core : Core) (known : EndKnown script core) (has : SoFar script trace core) where
@@ -229,19 +233,19 @@ module _ (script : Script) (trace : List Made) (core : Core) (known : EndKnown s
   lines_in_time =
       record {
         refused =
-            all_indexed (λ j. lines_of_ended (λ number ended. refused_line (name.Client j number) (cause_of ended.outcome))) (λ (line : XLine). NamesLosses trace line.call line.cause) core.clients
+            all_indexed (λ j. lines_of_ended (λ number ended. refused_line (client j number) (cause_of ended.outcome))) (λ (line : XLine). NamesLosses trace (name.Client line.call) line.cause) core.clients
             (λ i c is_c.
-            all_indexed (λ number ended. refused_line (name.Client i number) (cause_of ended.outcome)) (λ (line : XLine). NamesLosses trace line.call line.cause) c.ended
+            all_indexed (λ number ended. refused_line (client i number) (cause_of ended.outcome)) (λ (line : XLine). NamesLosses trace (name.Client line.call) line.cause) c.ended
             (λ number e is_e.
             let work : (w : Work) × (slice_get (client_work script) i ≡ Some w) = client_has script core known i c is_c in
-            refused_one trace (actor.Client i) number (name.Client i number) refl e.outcome ((has.clients i c is_c work.0 work.1).ended number e is_e)));
+            refused_one trace (client i number) e.outcome ((has.clients i c is_c work.0 work.1).ended number e is_e)));
         repairs =
-            all_indexed (λ j. lines_of_ended (λ number ended. repair_line (name.Repairer j number) (result_of ended.outcome))) (λ (line : RLine). ResultNamesLosses trace line.call line.result) core.repairers
+            all_indexed (λ j. lines_of_ended (λ number ended. repair_line (repair j number) (result_of ended.outcome))) (λ (line : RLine). ResultNamesLosses trace (name.Repairer line.call) line.result) core.repairers
             (λ i c is_c.
-            all_indexed (λ number ended. repair_line (name.Repairer i number) (result_of ended.outcome)) (λ (line : RLine). ResultNamesLosses trace line.call line.result) c.ended
+            all_indexed (λ number ended. repair_line (repair i number) (result_of ended.outcome)) (λ (line : RLine). ResultNamesLosses trace (name.Repairer line.call) line.result) c.ended
             (λ number e is_e.
             let work : (w : Work) × (slice_get (repairer_work script) i ≡ Some w) = repairer_has script core known i c is_c in
-            repair_one trace (actor.Repairer i) number (name.Repairer i number) refl e.outcome ((has.repairers i c is_c work.0 work.1).ended number e is_e)));
+            repair_one trace (repair i number) e.outcome ((has.repairers i c is_c work.0 work.1).ended number e is_e)));
       }
 
 pub runs_have_losses_in_time : RunsHaveLossesInTime

@@ -13,6 +13,8 @@ use Rattle.store_map.specs.declared.actor.Token.{Token}
 use Rattle.store_map.specs.declared.script.ClientPart.{ClientPart}
 use Rattle.store_map.specs.declared.script.RepairPart.{RepairPart}
 use Rattle.store_map.specs.declared.script.Script.{Script}
+use Rattle.store_map.specs.declared.call_name.ClientCall.{ClientCall}
+use Rattle.store_map.specs.declared.call_name.RepairCall.{RepairCall}
 use Rattle.store_map.specs.declared.call_name.CallName.{CallName}
 use Rattle.store_map.specs.declared.call_name.CallName.TheVariants as name
 use Rattle.store_map.specs.declared.cause.Cause.{Cause}
@@ -25,9 +27,10 @@ use Rattle.store_core.specs.Act.{Act}
 use Rattle.store_core.specs.Core.{Core, first_core}
 use Rattle.store_core.specs.NextAct.{Job, job_of, rebuild_job, next_act}
 use Rattle.store_core.specs.Outcomes.{cause_of, result_of}
+use Rattle.store_core.specs.RowLines.{client, repair}
 use Rattle.store_core.specs.Run.{places_in}
 use Rattle.store_core.specs.Schedule.{run_core}
-use Rattle.store_core.specs.Shown.{shown, refused_line, repair_line, unanswered_line, take_line, take_lines, lines_of_ended, lines_of_actors}
+use Rattle.store_core.specs.Shown.{shown, refused_line, repair_line, unanswered_line, take_line, take_lines, lines_of_ended, lines_of_actors, client_name, repairer_name}
 use Rattle.store_core.specs.Step.{Shortage, Places, take_from, ended_by, actor_step}
 use Rattle.store_core.specs.Tell.{tell}
 use Rattle.store_core.specs.Told.{Told}
@@ -132,7 +135,7 @@ inside (x ∷ xs) zero h = (x, refl)
 inside (x ∷ xs) (suc i) h = inside xs i (omega (arith, h))
 
 module _ (script : Script) where
-  client_named : (i number : ℕ) (work : Work) → slice_get (client_work script) i ≡ Some work → number < length work.jobs → IsCall script (name.Client i number)
+  client_named : (i number : ℕ) (work : Work) → slice_get (client_work script) i ≡ Some work → number < length work.jobs → IsCall script (client_name i number)
   client_named i number work is_work low =
       let job : (x : Job) × (slice_get work.jobs number ≡ Some x) = inside work.jobs number low in
       let of : OfScript script i number job.0 = job_call script i number work job.0 is_work job.1 in
@@ -141,7 +144,7 @@ module _ (script : Script) where
   repairer_of : RepairPart → Work
   repairer_of part = record { jobs = map rebuild_job part.calls; leave = part.leave }
 
-  repairer_named : (i number : ℕ) (work : Work) → slice_get (repairer_work script) i ≡ Some work → number < length work.jobs → IsCall script (name.Repairer i number)
+  repairer_named : (i number : ℕ) (work : Work) → slice_get (repairer_work script) i ≡ Some work → number < length work.jobs → IsCall script (repairer_name i number)
   unfolding repairer_of
   repairer_named i number work is_work low =
       let job : (x : Job) × (slice_get work.jobs number ≡ Some x) = inside work.jobs number low in
@@ -173,23 +176,20 @@ pub no_zeros : (n : ℕ) → list_any (nat_lt 0) (replicate n 0) ≡ false
 no_zeros zero = refl
 no_zeros (suc n) = no_zeros n
 
+refused_named : (script : Script) (call : ClientCall) (cause : Option Cause) → IsCall script (name.Client call) → All (λ (line : XLine). IsCall script (name.Client line.call)) (refused_line call cause)
+refused_named script call None h = All-nil (λ (line : XLine). IsCall script (name.Client line.call))
+refused_named script call (Some cause) h =
+    All-cons (λ (line : XLine). IsCall script (name.Client line.call)) (record { call = call; cause = cause }) [] h (All-nil (λ (line : XLine). IsCall script (name.Client line.call)))
+
+repair_named : (script : Script) (call : RepairCall) (result : Option RepairResult) → IsCall script (name.Repairer call) → All (λ (line : RLine). IsCall script (name.Repairer line.call)) (repair_line call result)
+repair_named script call None h = All-nil (λ (line : RLine). IsCall script (name.Repairer line.call))
+repair_named script call (Some result) h =
+    All-cons (λ (line : RLine). IsCall script (name.Repairer line.call)) (record { call = call; result = result }) [] h (All-nil (λ (line : RLine). IsCall script (name.Repairer line.call)))
+
 module _ (script : Script) (n : ℕ) (nm : ℕ → CallName) (work : Work) (named : (number : ℕ) → number < length work.jobs → IsCall script (nm number)) (c : Calling) (in_work : InWork n work c) where
-  below : (number : ℕ) → number < 0 + length c.ended → IsCall script (nm number)
-  below number low = named number (let most : length c.ended ≤ length work.jobs = in_work.below in omega (arith, low, most))
-
-  refused_named : (number : ℕ) (cause : Option Cause) → IsCall script (nm number) → All (λ (line : XLine). IsCall script line.call) (refused_line (nm number) cause)
-  refused_named number None h = All-nil (λ (line : XLine). IsCall script line.call)
-  refused_named number (Some cause) h = All-cons (λ (line : XLine). IsCall script line.call) (record { call = nm number; cause = cause }) [] h (All-nil (λ (line : XLine). IsCall script line.call))
-
-  repair_named : (number : ℕ) (result : Option RepairResult) → IsCall script (nm number) → All (λ (line : RLine). IsCall script line.call) (repair_line (nm number) result)
-  repair_named number None h = All-nil (λ (line : RLine). IsCall script line.call)
-  repair_named number (Some result) h = All-cons (λ (line : RLine). IsCall script line.call) (record { call = nm number; result = result }) [] h (All-nil (λ (line : RLine). IsCall script line.call))
-
-  all_refused : All (λ (line : XLine). IsCall script line.call) (lines_of_ended (λ number ended. refused_line (nm number) (cause_of ended.outcome)) c)
-  all_refused = ended_lines (λ (line : XLine). IsCall script line.call) (λ number ended. refused_line (nm number) (cause_of ended.outcome)) 0 c.ended (λ number e low. refused_named number (cause_of e.outcome) (below number low))
-
-  all_repairs : All (λ (line : RLine). IsCall script line.call) (lines_of_ended (λ number ended. repair_line (nm number) (result_of ended.outcome)) c)
-  all_repairs = ended_lines (λ (line : RLine). IsCall script line.call) (λ number ended. repair_line (nm number) (result_of ended.outcome)) 0 c.ended (λ number e low. repair_named number (result_of e.outcome) (below number low))
+  of_ended : {Line : Type 0} (Q : Line → Type 0) (line : ℕ → Ended → List Line) → ((number : ℕ) (e : Ended) → IsCall script (nm number) → All Q (line number e)) → All Q (lines_of_ended line c)
+  of_ended Q line h =
+      ended_lines Q line 0 c.ended (λ number e low. h number e (named number (let most : length c.ended ≤ length work.jobs = in_work.below in omega (arith, low, most))))
 
   unanswered : All (λ (line : OLine). IsCall script line.call) (unanswered_line nm c)
   unanswered = one_if (λ (line : OLine). IsCall script line.call) (nat_lt 0 c.steps) (record { call = nm (length c.ended) }) (λ e. named (length c.ended) (in_work.begun (ltb-true 0 c.steps e)))
@@ -204,19 +204,19 @@ module _ (script : Script) (n : ℕ) (nm : ℕ → CallName) (work : Work) (name
   all_takes : All (λ (line : GLine). IsCall script line.call) (take_lines nm c)
   all_takes =
       All-append (λ (line : GLine). IsCall script line.call) (lines_of_ended (λ number ended. take_line (nm number) ended.takes) c) (take_line (nm (length c.ended)) c.takes)
-      (ended_lines (λ (line : GLine). IsCall script line.call) (λ number ended. take_line (nm number) ended.takes) 0 c.ended (λ number e low. take_named number e.takes (λ _. below number low)))
+      (of_ended (λ (line : GLine). IsCall script line.call) (λ number ended. take_line (nm number) ended.takes) (λ number e h. take_named number e.takes (λ _. h)))
       (take_named (length c.ended) c.takes (λ some. named (length c.ended) (in_work.begun (some_steps c.steps refl some))))
 
-renamed_client : (script : Script) (k number : ℕ) → IsCall script (name.Client k number) → IsCall script (name.Client (0 + k) number)
-renamed_client script k number h = let same : 0 + k ≡ k = omega arith in subst (λ m. IsCall script (name.Client m number)) (sym same) h
+renamed_client : (script : Script) (k number : ℕ) → IsCall script (client_name k number) → IsCall script (client_name (0 + k) number)
+renamed_client script k number h = let same : 0 + k ≡ k = omega arith in subst (λ m. IsCall script (client_name m number)) (sym same) h
 
-renamed_repairer : (script : Script) (k number : ℕ) → IsCall script (name.Repairer k number) → IsCall script (name.Repairer (0 + k) number)
-renamed_repairer script k number h = let same : 0 + k ≡ k = omega arith in subst (λ m. IsCall script (name.Repairer m number)) (sym same) h
+renamed_repairer : (script : Script) (k number : ℕ) → IsCall script (repairer_name k number) → IsCall script (repairer_name (0 + k) number)
+renamed_repairer script k number h = let same : 0 + k ≡ k = omega arith in subst (λ m. IsCall script (repairer_name m number)) (sym same) h
 
 -- the refusals, rebuilds, calls without an answer and takes of a run are of calls of the script
 pub record OthersNamed (script : Script) (core : Core) : Type 0 where
-  pub refused : All (λ (line : XLine). IsCall script line.call) (shown script core).refused
-  pub repairs : All (λ (line : RLine). IsCall script line.call) (shown script core).repairs
+  pub refused : All (λ (line : XLine). IsCall script (name.Client line.call)) (shown script core).refused
+  pub repairs : All (λ (line : RLine). IsCall script (name.Repairer line.call)) (shown script core).repairs
   pub unanswered : All (λ (line : OLine). IsCall script line.call) (shown script core).unanswered
   pub takes : All (λ (line : GLine). IsCall script line.call) (shown script core).takes
 
@@ -225,14 +225,14 @@ others_named script can shortages tokens =
     let core : Core = run_core script shortages tokens in
     let n : ℕ = chunk_count script.geometry in
     let end : RunKeeps script core × AllCalls script tokens core = run_has script can (AllCalls script) (calls_kept script can) shortages (first_calls script can) tokens in
-    let client : (k : ℕ) (c : Calling) → slice_get core.clients k ≡ Some c → (w : Work) × (slice_get (client_work script) k ≡ Some w) =
+    let client_has : (k : ℕ) (c : Calling) → slice_get core.clients k ≡ Some c → (w : Work) × (slice_get (client_work script) k ≡ Some w) =
     λ k c e.
     inside (client_work script) k
     (let low : k < length core.clients = slice_get_within core.clients k c e in
     let same : length core.clients ≡ length script.clients = end.0.keeps.client_count in
     let size : length (client_work script) ≡ length script.clients = length-map script.clients (λ (part : ClientPart). record { jobs = map job_of part.calls; leave = part.leave }) in
     omega (arith, low, same, size)) in
-    let repairer : (k : ℕ) (c : Calling) → slice_get core.repairers k ≡ Some c → (w : Work) × (slice_get (repairer_work script) k ≡ Some w) =
+    let repairer_has : (k : ℕ) (c : Calling) → slice_get core.repairers k ≡ Some c → (w : Work) × (slice_get (repairer_work script) k ≡ Some w) =
     λ k c e.
     inside (repairer_work script) k
     (let low : k < length core.repairers = slice_get_within core.repairers k c e in
@@ -241,21 +241,27 @@ others_named script can shortages tokens =
     omega (arith, low, same, size)) in
     record {
       refused =
-          actor_lines (λ (line : XLine). IsCall script line.call) (λ i. lines_of_ended (λ number ended. refused_line (name.Client i number) (cause_of ended.outcome))) 0 core.clients
-          (λ k c e. all_refused script n (name.Client (0 + k)) (client k c e).0 (λ number low. renamed_client script k number (client_named script k number (client k c e).0 (client k c e).1 low)) c (end.1.clients k c e (client k c e).0 (client k c e).1));
+          actor_lines (λ (line : XLine). IsCall script (name.Client line.call)) (λ i. lines_of_ended (λ number ended. refused_line (client i number) (cause_of ended.outcome))) 0 core.clients
+          (λ k c e.
+          of_ended script n (client_name (0 + k)) (client_has k c e).0 (λ number low. renamed_client script k number (client_named script k number (client_has k c e).0 (client_has k c e).1 low)) c (end.1.clients k c e (client_has k c e).0 (client_has k c e).1)
+          (λ (line : XLine). IsCall script (name.Client line.call)) (λ number ended. refused_line (client (0 + k) number) (cause_of ended.outcome))
+          (λ number ended h. refused_named script (client (0 + k) number) (cause_of ended.outcome) h));
       repairs =
-          actor_lines (λ (line : RLine). IsCall script line.call) (λ i. lines_of_ended (λ number ended. repair_line (name.Repairer i number) (result_of ended.outcome))) 0 core.repairers
-          (λ k c e. all_repairs script n (name.Repairer (0 + k)) (repairer k c e).0 (λ number low. renamed_repairer script k number (repairer_named script k number (repairer k c e).0 (repairer k c e).1 low)) c (end.1.repairers k c e (repairer k c e).0 (repairer k c e).1));
+          actor_lines (λ (line : RLine). IsCall script (name.Repairer line.call)) (λ i. lines_of_ended (λ number ended. repair_line (repair i number) (result_of ended.outcome))) 0 core.repairers
+          (λ k c e.
+          of_ended script n (repairer_name (0 + k)) (repairer_has k c e).0 (λ number low. renamed_repairer script k number (repairer_named script k number (repairer_has k c e).0 (repairer_has k c e).1 low)) c (end.1.repairers k c e (repairer_has k c e).0 (repairer_has k c e).1)
+          (λ (line : RLine). IsCall script (name.Repairer line.call)) (λ number ended. repair_line (repair (0 + k) number) (result_of ended.outcome))
+          (λ number ended h. repair_named script (repair (0 + k) number) (result_of ended.outcome) h));
       unanswered =
-          All-append (λ (line : OLine). IsCall script line.call) (lines_of_actors (λ i. unanswered_line (name.Client i)) core.clients) (lines_of_actors (λ i. unanswered_line (name.Repairer i)) core.repairers)
-          (actor_lines (λ (line : OLine). IsCall script line.call) (λ i. unanswered_line (name.Client i)) 0 core.clients
-          (λ k c e. unanswered script n (name.Client (0 + k)) (client k c e).0 (λ number low. renamed_client script k number (client_named script k number (client k c e).0 (client k c e).1 low)) c (end.1.clients k c e (client k c e).0 (client k c e).1)))
-          (actor_lines (λ (line : OLine). IsCall script line.call) (λ i. unanswered_line (name.Repairer i)) 0 core.repairers
-          (λ k c e. unanswered script n (name.Repairer (0 + k)) (repairer k c e).0 (λ number low. renamed_repairer script k number (repairer_named script k number (repairer k c e).0 (repairer k c e).1 low)) c (end.1.repairers k c e (repairer k c e).0 (repairer k c e).1)));
+          All-append (λ (line : OLine). IsCall script line.call) (lines_of_actors (λ i. unanswered_line (client_name i)) core.clients) (lines_of_actors (λ i. unanswered_line (repairer_name i)) core.repairers)
+          (actor_lines (λ (line : OLine). IsCall script line.call) (λ i. unanswered_line (client_name i)) 0 core.clients
+          (λ k c e. unanswered script n (client_name (0 + k)) (client_has k c e).0 (λ number low. renamed_client script k number (client_named script k number (client_has k c e).0 (client_has k c e).1 low)) c (end.1.clients k c e (client_has k c e).0 (client_has k c e).1)))
+          (actor_lines (λ (line : OLine). IsCall script line.call) (λ i. unanswered_line (repairer_name i)) 0 core.repairers
+          (λ k c e. unanswered script n (repairer_name (0 + k)) (repairer_has k c e).0 (λ number low. renamed_repairer script k number (repairer_named script k number (repairer_has k c e).0 (repairer_has k c e).1 low)) c (end.1.repairers k c e (repairer_has k c e).0 (repairer_has k c e).1)));
       takes =
-          All-append (λ (line : GLine). IsCall script line.call) (lines_of_actors (λ i. take_lines (name.Client i)) core.clients) (lines_of_actors (λ i. take_lines (name.Repairer i)) core.repairers)
-          (actor_lines (λ (line : GLine). IsCall script line.call) (λ i. take_lines (name.Client i)) 0 core.clients
-          (λ k c e. all_takes script n (name.Client (0 + k)) (client k c e).0 (λ number low. renamed_client script k number (client_named script k number (client k c e).0 (client k c e).1 low)) c (end.1.clients k c e (client k c e).0 (client k c e).1)))
-          (actor_lines (λ (line : GLine). IsCall script line.call) (λ i. take_lines (name.Repairer i)) 0 core.repairers
-          (λ k c e. all_takes script n (name.Repairer (0 + k)) (repairer k c e).0 (λ number low. renamed_repairer script k number (repairer_named script k number (repairer k c e).0 (repairer k c e).1 low)) c (end.1.repairers k c e (repairer k c e).0 (repairer k c e).1)));
+          All-append (λ (line : GLine). IsCall script line.call) (lines_of_actors (λ i. take_lines (client_name i)) core.clients) (lines_of_actors (λ i. take_lines (repairer_name i)) core.repairers)
+          (actor_lines (λ (line : GLine). IsCall script line.call) (λ i. take_lines (client_name i)) 0 core.clients
+          (λ k c e. all_takes script n (client_name (0 + k)) (client_has k c e).0 (λ number low. renamed_client script k number (client_named script k number (client_has k c e).0 (client_has k c e).1 low)) c (end.1.clients k c e (client_has k c e).0 (client_has k c e).1)))
+          (actor_lines (λ (line : GLine). IsCall script line.call) (λ i. take_lines (repairer_name i)) 0 core.repairers
+          (λ k c e. all_takes script n (repairer_name (0 + k)) (repairer_has k c e).0 (λ number low. renamed_repairer script k number (repairer_named script k number (repairer_has k c e).0 (repairer_has k c e).1 low)) c (end.1.repairers k c e (repairer_has k c e).0 (repairer_has k c e).1)));
     }

@@ -2,6 +2,7 @@
 use Rattle.std.proofs.Common.{List, ◌++◌, map, All}
 use Rattle.std.proofs.lemmas.List.Elements.{All-append}
 use Rattle.store_map.specs.declared.call_name.CallName.{CallName}
+use Rattle.store_map.specs.declared.call_name.CallName.TheVariants as name
 use Rattle.store_map.specs.declared.line.HLine.{HLine}
 use Rattle.store_map.specs.declared.line.XLine.{XLine}
 use Rattle.store_map.specs.declared.line.RLine.{RLine}
@@ -30,13 +31,13 @@ all_named script can shortages tokens =
     let history : LinesInOrder script (history_of script core) = lines_in_order script can shortages tokens in
     let others : OthersNamed script core = others_named script can shortages tokens in
     let P : CallName → Type 0 = IsCall script in
-    let a : List CallName = map (λ (line : HLine). line.call) t.history in
-    let b : List CallName = map (λ (line : XLine). line.call) t.refused in
-    let c : List CallName = map (λ (line : RLine). line.call) t.repairs in
+    let a : List CallName = map (λ (line : HLine). name.Client line.call) t.history in
+    let b : List CallName = map (λ (line : XLine). name.Client line.call) t.refused in
+    let c : List CallName = map (λ (line : RLine). name.Repairer line.call) t.repairs in
     let d : List CallName = map (λ (line : OLine). line.call) t.unanswered in
     All-append P (listed_calls t) (map (λ (line : GLine). line.call) t.takes)
     (All-append P (a ++ b ++ c) d
-    (All-append P (a ++ b) c (All-append P a b (map_all P (λ (line : HLine). line.call) t.history history.calls) (map_all P (λ (line : XLine). line.call) t.refused others.refused))
-    (map_all P (λ (line : RLine). line.call) t.repairs others.repairs))
+    (All-append P (a ++ b) c (All-append P a b (map_all P (λ (line : HLine). name.Client line.call) t.history history.calls) (map_all P (λ (line : XLine). name.Client line.call) t.refused others.refused))
+    (map_all P (λ (line : RLine). name.Repairer line.call) t.repairs others.repairs))
     (map_all P (λ (line : OLine). line.call) t.unanswered others.unanswered))
     (map_all P (λ (line : GLine). line.call) t.takes others.takes)

@@ -5,6 +5,7 @@ use Rattle.clay_grid.specs.Shape.{Shape, chunk_count}
 use Rattle.store_map.specs.Limits.{tries_of}
 use Rattle.store_map.specs.declared.call.Rebuild.{Rebuild}
 use Rattle.store_map.specs.declared.script.Script.{Script}
+use Rattle.store_map.specs.declared.call_name.RepairCall.{RepairCall}
 use Rattle.store_map.specs.declared.call_name.CallName.TheVariants as name
 use Rattle.hist_rules.specs.Calls.{rebuild_of}
 use Rattle.store_core.specs.Act.{Act, ServerStep, Outcome}
@@ -80,10 +81,10 @@ kind_free : (kind : Kind) → kind ≡ Kind.Rebuild → (g : Shape) (tries : ℕ
 kind_free kind is g tries job below told = subst (λ k. IsNoPrepare (next_by k g tries job told)) (sym is) (rebuild_free g job.note job.target below told)
 
 -- so no step of its is one
-pub never_skips : (script : Script) (trace : List Made) → StepsAreNext script trace → (i number : ℕ) (job : Job) → job_of_call script (name.Repairer i number) ≡ Some job → HasTarget script.geometry job
-    → (version server : ℕ) → SkipsChunk trace (name.Repairer i number) version server → ⊥
-never_skips script trace next i number job is target version server h =
-    let rebuild : (rebuild : Rebuild) × (rebuild_of script (name.Repairer i number) ≡ Some rebuild) × (rebuild_job rebuild ≡ job) = rebuild_is script i number job is in
+pub never_skips : (script : Script) (trace : List Made) → StepsAreNext script trace → (call : RepairCall) (job : Job) → job_of_call script (name.Repairer call) ≡ Some job → HasTarget script.geometry job
+    → (version server : ℕ) → SkipsChunk trace (name.Repairer call) version server → ⊥
+never_skips script trace next call job is target version server h =
+    let rebuild : (rebuild : Rebuild) × (rebuild_of script call ≡ Some rebuild) × (rebuild_job rebuild ≡ job) = rebuild_is script call job is in
     let kind : job.note.kind ≡ Kind.Rebuild = ap (λ (j : Job). j.note.kind) (sym rebuild.2) in
-    subst IsNoPrepare (sym (next (name.Repairer i number) job is h.before h.made h.after h.split h.is.0) ∙ h.is.1)
+    subst IsNoPrepare (sym (next (name.Repairer call) job is h.before h.made h.after h.split h.is.0) ∙ h.is.1)
     (kind_free job.note.kind kind script.geometry (tries_of script) job (target kind) _)

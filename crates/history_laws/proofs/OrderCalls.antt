@@ -6,11 +6,12 @@ use Rattle.std.proofs.lemmas.List.Elements.{All-nil, All-cons, All-head, All-tai
 use Rattle.std.proofs.lemmas.List.Kept.{AllPairs-filter}
 use Rattle.std.specs.List.{slice_get, list_any}
 use Rattle.clay_grid.specs.Shape.{chunk_count}
-use Rattle.store_map.specs.declared.actor.Actor.{Actor}
 use Rattle.store_map.specs.declared.actor.Actor.TheVariants as actor
 use Rattle.store_map.specs.declared.reply.Reply.{Reply}
 use Rattle.store_map.specs.declared.script.ClientPart.{ClientPart}
 use Rattle.store_map.specs.declared.script.Script.{Script}
+use Rattle.store_map.specs.declared.call_name.ClientCall.{ClientCall}
+use Rattle.store_map.specs.declared.call_name.RepairCall.{RepairCall}
 use Rattle.store_map.specs.declared.call_name.CallName.{CallName}
 use Rattle.store_map.specs.declared.call_name.CallName.TheVariants as name
 use Rattle.store_map.specs.declared.cause.Cause.{Cause}
@@ -30,12 +31,14 @@ use Rattle.hist_rules.specs.Named.{is_reply, listed_calls, answered_calls}
 use Rattle.hist_rules.specs.OneOpenCall.{unanswered_calls}
 use Rattle.store_core.specs.Core.{Core}
 use Rattle.store_core.specs.Directory.{Event}
-use Rattle.store_core.specs.History.{is_answer, answered_in, shown_at, name_of, call_of}
+use Rattle.store_core.specs.History.{is_answer, answered_in, shown_at, call_of}
 use Rattle.store_core.specs.Outcomes.{cause_of, result_of}
-use Rattle.store_core.specs.Shown.{shown, refused_line, repair_line, unanswered_line, take_line, take_lines, lines_of_ended, lines_of_actors}
+use Rattle.store_core.specs.RowLines.{client, repair}
+use Rattle.store_core.specs.Shown.{shown, refused_line, repair_line, unanswered_line, take_line, take_lines, lines_of_ended, lines_of_actors, client_name, repairer_name}
 use Rattle.store_core.specs.Work.{Ended, Work, Calling, client_work, repairer_work}
 use Rattle.history_laws.proofs.HistoryOrder.{NumberRises}
 use Rattle.history_laws.proofs.NamedCalls.{InWork, no_zeros, inside}
+use Rattle.history_laws.proofs.Naming.{named_client}
 use Rattle.history_laws.proofs.OrderLists.{no_pairs, one_pair, pairs_append, after_pairs, none_before, map_all, map_pairs, map_contains, all_indexed, in_indexed, pairs_indexed}
 use Rattle.history_laws.proofs.OrderPoints.{EventFits, PointFits}
 use Rattle.history_laws.proofs.OrderShown.{ShownPoint, all_shown}
@@ -44,12 +47,8 @@ use Rattle.history_laws.proofs.Points.{IsOfCall, IsOfScript}
 use Rattle.run_laws.proofs.SoundLists.{all_by, at_all, contains_at, in_filter}
 
 abbrev caller : CallName → ℕ
-caller (name.Client i number) = i
-caller (name.Repairer i number) = i
-
-self : (call : CallName) → same_caller call call ≡ true
-self (name.Client i number) = eq-eqb i i refl
-self (name.Repairer i number) = eq-eqb i i refl
+caller (name.Client call) = call.client
+caller (name.Repairer call) = call.repairer
 
 -- elements of two lists that differ by something
 cross : {X : Type 0} (P Q : X → Type 0) (R : X → X → Type 0) (xs ys : List X) → ((x y : X) → P x → Q y → R x y) → All P xs → All Q ys → All (λ x. All (R x) ys) xs
@@ -99,39 +98,40 @@ module _ (script : Script) (core : Core) (known : EndKnown script core) where
 
   replied_apart : AllPairs Differ (replied_calls script core known)
   replied_apart =
-      map_pairs (λ (line later : HLine). NumberRises line.call later.call) Differ (λ (line : HLine). line.call) (filter (λ line. is_reply line.reply) t.history)
+      map_pairs (λ (line later : HLine). NumberRises line.call later.call) Differ (λ (line : HLine). name.Client line.call) (filter (λ line. is_reply line.reply) t.history)
       (λ line later rises same.
-      let twice : number_of line.call < number_of line.call = subst (λ c. same_caller c line.call ≡ true → number_of line.call < number_of c) same rises (self line.call) in
-      omega (arith, twice))
+      let less : line.call.number < later.call.number = rises (eq-eqb later.call.client line.call.client (ap caller same)) in
+      let equal : later.call.number ≡ line.call.number = ap number_of same in
+      omega (arith, less, equal))
       (AllPairs-filter (λ (line later : HLine). NumberRises line.call later.call) (λ line. is_reply line.reply) t.history known.order.numbers)
 
-  refused_each : (call : CallName) (found : Option Cause) → All (λ (l : XLine). l.call ≡ call) (refused_line call found)
-  refused_each call None = All-nil (λ (l : XLine). l.call ≡ call)
-  refused_each call (Some cause) = All-cons (λ (l : XLine). l.call ≡ call) (record { call = call; cause = cause }) [] refl (All-nil (λ (l : XLine). l.call ≡ call))
+  refused_each : (call : ClientCall) (found : Option Cause) → All (λ (l : XLine). name.Client l.call ≡ name.Client call) (refused_line call found)
+  refused_each call None = All-nil (λ (l : XLine). name.Client l.call ≡ name.Client call)
+  refused_each call (Some cause) = All-cons (λ (l : XLine). name.Client l.call ≡ name.Client call) (record { call = call; cause = cause }) [] refl (All-nil (λ (l : XLine). name.Client l.call ≡ name.Client call))
 
-  refused_single : (call : CallName) (found : Option Cause) → AllPairs (λ (l other : XLine). other.call ≢ l.call) (refused_line call found)
-  refused_single call None = no_pairs (λ (l other : XLine). other.call ≢ l.call)
-  refused_single call (Some cause) = one_pair (λ (l other : XLine). other.call ≢ l.call) (record { call = call; cause = cause })
+  refused_single : (call : ClientCall) (found : Option Cause) → AllPairs (λ (l other : XLine). name.Client other.call ≢ name.Client l.call) (refused_line call found)
+  refused_single call None = no_pairs (λ (l other : XLine). name.Client other.call ≢ name.Client l.call)
+  refused_single call (Some cause) = one_pair (λ (l other : XLine). name.Client other.call ≢ name.Client l.call) (record { call = call; cause = cause })
 
   refused_apart : AllPairs Differ (refused_calls script core known)
   refused_apart =
-      map_pairs (λ (l other : XLine). other.call ≢ l.call) Differ (λ (line : XLine). line.call) t.refused (λ l other differ. differ)
-      (lines_apart (λ (l : XLine). l.call) name.Client (λ i n. refl) (λ i n. refl) (λ i n e. refused_line (name.Client i n) (cause_of e.outcome))
-      (λ i n e. refused_each (name.Client i n) (cause_of e.outcome)) (λ i n e. refused_single (name.Client i n) (cause_of e.outcome)) core.clients)
+      map_pairs (λ (l other : XLine). name.Client other.call ≢ name.Client l.call) Differ (λ (line : XLine). name.Client line.call) t.refused (λ l other differ. differ)
+      (lines_apart (λ (l : XLine). name.Client l.call) client_name (λ i n. refl) (λ i n. refl) (λ i n e. refused_line (client i n) (cause_of e.outcome))
+      (λ i n e. refused_each (client i n) (cause_of e.outcome)) (λ i n e. refused_single (client i n) (cause_of e.outcome)) core.clients)
 
-  repair_each : (call : CallName) (found : Option RepairResult) → All (λ (l : RLine). l.call ≡ call) (repair_line call found)
-  repair_each call None = All-nil (λ (l : RLine). l.call ≡ call)
-  repair_each call (Some result) = All-cons (λ (l : RLine). l.call ≡ call) (record { call = call; result = result }) [] refl (All-nil (λ (l : RLine). l.call ≡ call))
+  repair_each : (call : RepairCall) (found : Option RepairResult) → All (λ (l : RLine). name.Repairer l.call ≡ name.Repairer call) (repair_line call found)
+  repair_each call None = All-nil (λ (l : RLine). name.Repairer l.call ≡ name.Repairer call)
+  repair_each call (Some result) = All-cons (λ (l : RLine). name.Repairer l.call ≡ name.Repairer call) (record { call = call; result = result }) [] refl (All-nil (λ (l : RLine). name.Repairer l.call ≡ name.Repairer call))
 
-  repair_single : (call : CallName) (found : Option RepairResult) → AllPairs (λ (l other : RLine). other.call ≢ l.call) (repair_line call found)
-  repair_single call None = no_pairs (λ (l other : RLine). other.call ≢ l.call)
-  repair_single call (Some result) = one_pair (λ (l other : RLine). other.call ≢ l.call) (record { call = call; result = result })
+  repair_single : (call : RepairCall) (found : Option RepairResult) → AllPairs (λ (l other : RLine). name.Repairer other.call ≢ name.Repairer l.call) (repair_line call found)
+  repair_single call None = no_pairs (λ (l other : RLine). name.Repairer other.call ≢ name.Repairer l.call)
+  repair_single call (Some result) = one_pair (λ (l other : RLine). name.Repairer other.call ≢ name.Repairer l.call) (record { call = call; result = result })
 
   repairs_apart : AllPairs Differ (repair_calls script core known)
   repairs_apart =
-      map_pairs (λ (l other : RLine). other.call ≢ l.call) Differ (λ (line : RLine). line.call) t.repairs (λ l other differ. differ)
-      (lines_apart (λ (l : RLine). l.call) name.Repairer (λ i n. refl) (λ i n. refl) (λ i n e. repair_line (name.Repairer i n) (result_of e.outcome))
-      (λ i n e. repair_each (name.Repairer i n) (result_of e.outcome)) (λ i n e. repair_single (name.Repairer i n) (result_of e.outcome)) core.repairers)
+      map_pairs (λ (l other : RLine). name.Repairer other.call ≢ name.Repairer l.call) Differ (λ (line : RLine). name.Repairer line.call) t.repairs (λ l other differ. differ)
+      (lines_apart (λ (l : RLine). name.Repairer l.call) repairer_name (λ i n. refl) (λ i n. refl) (λ i n e. repair_line (repair i n) (result_of e.outcome))
+      (λ i n e. repair_each (repair i n) (result_of e.outcome)) (λ i n e. repair_single (repair i n) (result_of e.outcome)) core.repairers)
 
   abbrev A : List CallName
   A = replied_calls script core known
@@ -143,8 +143,8 @@ module _ (script : Script) (core : Core) (known : EndKnown script core) where
   C = repair_calls script core known
 
   replied_clients : (call : CallName) → answered_at core call ≡ true → is_client call ≡ true
-  replied_clients (name.Client i number) e = refl
-  replied_clients (name.Repairer i number) e = absurd (true≢false (sym e))
+  replied_clients (name.Client call) e = refl
+  replied_clients (name.Repairer call) e = absurd (true≢false (sym e))
 
   clients_first : All (λ call. is_client call ≡ true) (A ++ B)
   clients_first =
@@ -171,12 +171,12 @@ module _ (script : Script) (core : Core) (known : EndKnown script core) where
       (All-weaker (IsResult script core known) (λ call. number_of call < ended_count core call) (λ call h. h.1) C (all_results script core known))
 
   same_count : (call : CallName) (number : ℕ) → ended_count core (with_number call number) ≡ ended_count core call
-  same_count (name.Client i n) number = refl
-  same_count (name.Repairer i n) number = refl
+  same_count (name.Client call) number = refl
+  same_count (name.Repairer call) number = refl
 
   number_there : (call : CallName) (number : ℕ) → number_of (with_number call number) ≡ number
-  number_there (name.Client i n) number = refl
-  number_there (name.Repairer i n) number = refl
+  number_there (name.Client call) number = refl
+  number_there (name.Repairer call) number = refl
 
   -- all calls before one that comes no later than the first that hasn't ended
   follows : (call : CallName) → number_of call ≤ ended_count core call → Follows (answered_calls t) call
@@ -211,22 +211,22 @@ module _ (script : Script) (core : Core) (known : EndKnown script core) where
       by true = All-cons Q (record { call = call (length c.ended) }) [] q (All-nil Q)
       by false = All-nil Q
 
-  open_clients : All (λ (line : OLine). IsOpen line.call × (is_client line.call ≡ true)) (lines_of_actors (λ i. unanswered_line (name.Client i)) core.clients)
+  open_clients : All (λ (line : OLine). IsOpen line.call × (is_client line.call ≡ true)) (lines_of_actors (λ i. unanswered_line (client_name i)) core.clients)
   open_clients =
-      all_indexed (λ i. unanswered_line (name.Client i)) (λ (line : OLine). IsOpen line.call × (is_client line.call ≡ true)) core.clients
-      (λ i c is. one_open (name.Client i) c (λ (line : OLine). IsOpen line.call × (is_client line.call ≡ true)) (sym (ap ended_of is), refl))
+      all_indexed (λ i. unanswered_line (client_name i)) (λ (line : OLine). IsOpen line.call × (is_client line.call ≡ true)) core.clients
+      (λ i c is. one_open (client_name i) c (λ (line : OLine). IsOpen line.call × (is_client line.call ≡ true)) (sym (ap ended_of is), refl))
 
-  open_repairers : All (λ (line : OLine). IsOpen line.call × (is_client line.call ≡ false)) (lines_of_actors (λ i. unanswered_line (name.Repairer i)) core.repairers)
+  open_repairers : All (λ (line : OLine). IsOpen line.call × (is_client line.call ≡ false)) (lines_of_actors (λ i. unanswered_line (repairer_name i)) core.repairers)
   open_repairers =
-      all_indexed (λ i. unanswered_line (name.Repairer i)) (λ (line : OLine). IsOpen line.call × (is_client line.call ≡ false)) core.repairers
-      (λ i c is. one_open (name.Repairer i) c (λ (line : OLine). IsOpen line.call × (is_client line.call ≡ false)) (sym (ap ended_of is), refl))
+      all_indexed (λ i. unanswered_line (repairer_name i)) (λ (line : OLine). IsOpen line.call × (is_client line.call ≡ false)) core.repairers
+      (λ i c is. one_open (repairer_name i) c (λ (line : OLine). IsOpen line.call × (is_client line.call ≡ false)) (sym (ap ended_of is), refl))
 
   all_open : All IsOpen (unanswered_calls t)
   all_open =
       map_all IsOpen (λ (line : OLine). line.call) t.unanswered
-      (All-append (λ (line : OLine). IsOpen line.call) (lines_of_actors (λ i. unanswered_line (name.Client i)) core.clients) (lines_of_actors (λ i. unanswered_line (name.Repairer i)) core.repairers)
-      (All-weaker (λ (line : OLine). IsOpen line.call × (is_client line.call ≡ true)) (λ (line : OLine). IsOpen line.call) (λ line h. h.0) (lines_of_actors (λ i. unanswered_line (name.Client i)) core.clients) open_clients)
-      (All-weaker (λ (line : OLine). IsOpen line.call × (is_client line.call ≡ false)) (λ (line : OLine). IsOpen line.call) (λ line h. h.0) (lines_of_actors (λ i. unanswered_line (name.Repairer i)) core.repairers) open_repairers))
+      (All-append (λ (line : OLine). IsOpen line.call) (lines_of_actors (λ i. unanswered_line (client_name i)) core.clients) (lines_of_actors (λ i. unanswered_line (repairer_name i)) core.repairers)
+      (All-weaker (λ (line : OLine). IsOpen line.call × (is_client line.call ≡ true)) (λ (line : OLine). IsOpen line.call) (λ line h. h.0) (lines_of_actors (λ i. unanswered_line (client_name i)) core.clients) open_clients)
+      (All-weaker (λ (line : OLine). IsOpen line.call × (is_client line.call ≡ false)) (λ (line : OLine). IsOpen line.call) (λ line h. h.0) (lines_of_actors (λ i. unanswered_line (repairer_name i)) core.repairers) open_repairers))
 
   abbrev Alone : OLine → OLine → Type 0
   Alone line other = same_caller other.call line.call ≡ false
@@ -253,17 +253,17 @@ module _ (script : Script) (core : Core) (known : EndKnown script core) where
       (one_open (call j) d (Alone (record { call = call i (length c.ended) })) (differ i j (length d.ended) (length c.ended) less)))
 
   kinds_apart : (one other : CallName) → is_client one ≡ true → is_client other ≡ false → same_caller other one ≡ false
-  kinds_apart (name.Client i n) (name.Repairer j m) e k = refl
-  kinds_apart (name.Client i n) (name.Client j m) e k = absurd (true≢false k)
-  kinds_apart (name.Repairer i n) other e k = absurd (true≢false (sym e))
+  kinds_apart (name.Client one) (name.Repairer two) e k = refl
+  kinds_apart (name.Client one) (name.Client two) e k = absurd (true≢false k)
+  kinds_apart (name.Repairer call) other e k = absurd (true≢false (sym e))
 
   open_alone : AllPairs (λ one other. same_caller other one ≡ false) (unanswered_calls t)
   open_alone =
       map_pairs Alone (λ one other. same_caller other one ≡ false) (λ (line : OLine). line.call) t.unanswered (λ l other alone. alone)
-      (pairs_append Alone (lines_of_actors (λ i. unanswered_line (name.Client i)) core.clients) (lines_of_actors (λ i. unanswered_line (name.Repairer i)) core.repairers)
-      (of_kind name.Client core.clients (λ i j n m less. apart_callers i j less)) (of_kind name.Repairer core.repairers (λ i j n m less. apart_callers i j less))
+      (pairs_append Alone (lines_of_actors (λ i. unanswered_line (client_name i)) core.clients) (lines_of_actors (λ i. unanswered_line (repairer_name i)) core.repairers)
+      (of_kind client_name core.clients (λ i j n m less. apart_callers i j less)) (of_kind repairer_name core.repairers (λ i j n m less. apart_callers i j less))
       (cross (λ (line : OLine). IsOpen line.call × (is_client line.call ≡ true)) (λ (line : OLine). IsOpen line.call × (is_client line.call ≡ false)) Alone
-      (lines_of_actors (λ i. unanswered_line (name.Client i)) core.clients) (lines_of_actors (λ i. unanswered_line (name.Repairer i)) core.repairers)
+      (lines_of_actors (λ i. unanswered_line (client_name i)) core.clients) (lines_of_actors (λ i. unanswered_line (repairer_name i)) core.repairers)
       (λ x y p q. kinds_apart x.call y.call p.1 q.1) open_clients open_repairers))
 
   next_calls : (before calls : List CallName) → All IsOpen calls → AllAfter (λ others call. All (λ other. same_caller call other ≡ false) others) before calls → AllAfter (IsNext (answered_calls t)) before calls
@@ -288,19 +288,19 @@ module _ (script : Script) (core : Core) (known : EndKnown script core) where
   begun_line : (call : ℕ → CallName) (c : Calling) → 0 < c.steps → Contains (unanswered_line call c) (record { call = call (length c.ended) })
   begun_line call c some = subst (λ b. Contains (cond {A = List OLine} b (record { call = call (length c.ended) } ∷ []) []) (record { call = call (length c.ended) })) (sym (lt-ltb 0 c.steps some)) (contains_at (record { call = call (length c.ended) } ∷ []) 0 (record { call = call (length c.ended) }) refl)
 
-  client_begun : (i : ℕ) (c : Calling) → slice_get core.clients i ≡ Some c → 0 < c.steps → Contains (unanswered_calls t) (name.Client i (length c.ended))
+  client_begun : (i : ℕ) (c : Calling) → slice_get core.clients i ≡ Some c → 0 < c.steps → Contains (unanswered_calls t) (client_name i (length c.ended))
   client_begun i c is some =
-      let line : OLine = record { call = name.Client i (length c.ended) } in
+      let line : OLine = record { call = client_name i (length c.ended) } in
       map_contains (λ (l : OLine). l.call) t.unanswered line
-      (Contains-append_left (lines_of_actors (λ j. unanswered_line (name.Client j)) core.clients) (lines_of_actors (λ j. unanswered_line (name.Repairer j)) core.repairers) line
-      (in_indexed (λ j. unanswered_line (name.Client j)) core.clients i c line is (begun_line (name.Client i) c some)))
+      (Contains-append_left (lines_of_actors (λ j. unanswered_line (client_name j)) core.clients) (lines_of_actors (λ j. unanswered_line (repairer_name j)) core.repairers) line
+      (in_indexed (λ j. unanswered_line (client_name j)) core.clients i c line is (begun_line (client_name i) c some)))
 
-  repairer_begun : (i : ℕ) (c : Calling) → slice_get core.repairers i ≡ Some c → 0 < c.steps → Contains (unanswered_calls t) (name.Repairer i (length c.ended))
+  repairer_begun : (i : ℕ) (c : Calling) → slice_get core.repairers i ≡ Some c → 0 < c.steps → Contains (unanswered_calls t) (repairer_name i (length c.ended))
   repairer_begun i c is some =
-      let line : OLine = record { call = name.Repairer i (length c.ended) } in
+      let line : OLine = record { call = repairer_name i (length c.ended) } in
       map_contains (λ (l : OLine). l.call) t.unanswered line
-      (Contains-append_right (lines_of_actors (λ j. unanswered_line (name.Client j)) core.clients) (lines_of_actors (λ j. unanswered_line (name.Repairer j)) core.repairers) line
-      (in_indexed (λ j. unanswered_line (name.Repairer j)) core.repairers i c line is (begun_line (name.Repairer i) c some)))
+      (Contains-append_right (lines_of_actors (λ j. unanswered_line (client_name j)) core.clients) (lines_of_actors (λ j. unanswered_line (repairer_name j)) core.repairers) line
+      (in_indexed (λ j. unanswered_line (repairer_name j)) core.repairers i c line is (begun_line (repairer_name i) c some)))
 
   -- ---- effects without a reply
   abbrev is_open_line : Shown → Bool
@@ -317,8 +317,8 @@ module _ (script : Script) (core : Core) (known : EndKnown script core) where
   open_event Event.Reaped answered_now mapped e = absurd (none-some shown_as.Unfinished e)
 
   -- the client of a point, which has committed and isn't answered
-  open_call : (line : HLine) → ShownPoint script core core.directory.points line → line.reply ≡ shown_as.Unfinished → Contains (unanswered_calls t) line.call
-  open_call line of is_open = by of.point.actor refl (at_all (IsOfScript script) core.directory.points of.at of.point known.points of.found)
+  open_call : (line : HLine) → ShownPoint script core core.directory.points line → line.reply ≡ shown_as.Unfinished → Contains (unanswered_calls t) (name.Client line.call)
+  open_call line of is_open = by (at_all (IsOfScript script) core.directory.points of.at of.point known.points of.found)
     where
       says : shown_at of.point.event (answered_in core of.point.actor of.point.number) of.mapped ≡ Some shown_as.Unfinished
       says = of.says ∙ ap Some is_open
@@ -329,13 +329,13 @@ module _ (script : Script) (core : Core) (known : EndKnown script core) where
       unreaped : of.point.event ≡ Event.Reaped → ⊥
       unreaped reaped = true≢false (sym (ap is_commit event.0) ∙ ap is_commit reaped)
 
-      committed : (i : ℕ) (c : Calling) → slice_get core.clients i ≡ Some c → of.point.actor ≡ actor.Client i → EventFits script i c of.point.number Event.Done → Contains (unanswered_calls t) (name.Client i of.point.number)
+      committed : (i : ℕ) (c : Calling) → slice_get core.clients i ≡ Some c → of.point.actor ≡ actor.Client i → EventFits script i c of.point.number Event.Done → Contains (unanswered_calls t) (client_name i of.point.number)
       committed i c is_c mine (inl answered_now) =
           absurd
           (true≢false
           (sym answered_now
           ∙ sym (ap (λ o. is_answer (option_and_then (λ (x : Calling). slice_get x.ended of.point.number) o)) is_c) ∙ sym (ap (λ a. answered_in core a of.point.number) mine) ∙ event.1))
-      committed i c is_c mine (inr h) = subst (λ n. Contains (unanswered_calls t) (name.Client i n)) (sym h.is_number) (client_begun i c is_c h.begun)
+      committed i c is_c mine (inr h) = subst (λ n. Contains (unanswered_calls t) (client_name i n)) (sym h.is_number) (client_begun i c is_c h.begun)
 
       nobody : (i : ℕ) → slice_get core.clients i ≡ None → of.point.actor ≡ actor.Client i → IsOfCall script of.point → ⊥
       nobody i none mine call = gone (slice_get script.clients i) refl (subst (λ a. call_of script a of.point.number ≡ Some call.call) mine call.is_call)
@@ -348,25 +348,25 @@ module _ (script : Script) (core : Core) (known : EndKnown script core) where
               let there : (c : Calling) × (slice_get core.clients i ≡ Some c) = inside core.clients i (omega (arith, low, same)) in
               none-some there.0 (sym none ∙ there.1)
 
-      client : (i : ℕ) → of.point.actor ≡ actor.Client i → IsOfCall script of.point → (found : Option Calling) → slice_get core.clients i ≡ found → Contains (unanswered_calls t) (name.Client i of.point.number)
-      client i mine call None is = absurd (nobody i is mine call)
-      client i mine call (Some c) is =
+      open_client : (i : ℕ) → of.point.actor ≡ actor.Client i → IsOfCall script of.point → (found : Option Calling) → slice_get core.clients i ≡ found → Contains (unanswered_calls t) (client_name i of.point.number)
+      open_client i mine call None is = absurd (nobody i is mine call)
+      open_client i mine call (Some c) is =
           committed i c is mine (subst (EventFits script i c of.point.number) event.0 (at_all (PointFits script i c) core.directory.points of.at of.point (known.fits i c is) of.found mine))
 
-      by : (who : Actor) → of.point.actor ≡ who → (of.point.event ≡ Event.Reaped) ⊎ IsOfCall script of.point → Contains (unanswered_calls t) line.call
-      by who mine (inl reaped) = absurd (unreaped reaped)
-      by (actor.Client i) mine (inr call) =
-          subst (Contains (unanswered_calls t)) (same_Some (name.Client i of.point.number) line.call (sym (ap (λ a. name_of a of.point.number) mine) ∙ of.named)) (client i mine call (slice_get core.clients i) refl)
-      by (actor.Repairer i) mine (inr call) = absurd (none-some call.call (sym (ap (λ a. call_of script a of.point.number) mine) ∙ call.is_call))
-      by actor.Sweeper mine (inr call) = absurd (none-some call.call (sym (ap (λ a. call_of script a of.point.number) mine) ∙ call.is_call))
-      by actor.Operator mine (inr call) = absurd (none-some call.call (sym (ap (λ a. call_of script a of.point.number) mine) ∙ call.is_call))
+      named : (of.point.actor ≡ actor.Client line.call.client) × (of.point.number ≡ line.call.number)
+      named = named_client of.point.actor of.point.number line.call of.named
 
-  pub effects : All (λ line. line.reply ≡ shown_as.Unfinished → Contains (unanswered_calls t) line.call) t.history
-  effects = All-weaker (ShownPoint script core core.directory.points) (λ line. line.reply ≡ shown_as.Unfinished → Contains (unanswered_calls t) line.call) open_call t.history (all_shown script core)
+      by : (of.point.event ≡ Event.Reaped) ⊎ IsOfCall script of.point → Contains (unanswered_calls t) (name.Client line.call)
+      by (inl reaped) = absurd (unreaped reaped)
+      by (inr call) =
+          subst (λ n. Contains (unanswered_calls t) (client_name line.call.client n)) named.1 (open_client line.call.client named.0 call (slice_get core.clients line.call.client) refl)
+
+  pub effects : All (λ line. line.reply ≡ shown_as.Unfinished → Contains (unanswered_calls t) (name.Client line.call)) t.history
+  effects = All-weaker (ShownPoint script core core.directory.points) (λ line. line.reply ≡ shown_as.Unfinished → Contains (unanswered_calls t) (name.Client line.call)) open_call t.history (all_shown script core)
 
   -- ---- takes
   abbrev H : List CallName
-  H = map (λ (line : HLine). line.call) t.history
+  H = map (λ (line : HLine). name.Client line.call) t.history
 
   -- an answered call has its line
   answered_listed : (call : CallName) → Contains (answered_calls t) call → Contains (listed_calls t) call
@@ -375,14 +375,14 @@ module _ (script : Script) (core : Core) (known : EndKnown script core) where
       replied : Contains A call → Contains H call
       replied has_a = All-contains (Contains H) A call (all_by (Contains H) A (λ other at. in_history other (replied_line other at))) has_a
         where
-          in_history : (other : CallName) → (line : HLine) × (Contains t.history line × (line.call ≡ other)) → Contains H other
-          in_history other found = subst (Contains H) found.1.1 (map_contains (λ (line : HLine). line.call) t.history found.0 found.1.0)
+          in_history : (other : CallName) → (line : HLine) × (Contains t.history line × (name.Client line.call ≡ other)) → Contains H other
+          in_history other found = subst (Contains H) found.1.1 (map_contains (λ (line : HLine). name.Client line.call) t.history found.0 found.1.0)
 
-          replied_line : (other : CallName) → Contains A other → (line : HLine) × (Contains t.history line × (line.call ≡ other))
+          replied_line : (other : CallName) → Contains A other → (line : HLine) × (Contains t.history line × (name.Client line.call ≡ other))
           replied_line other at =
-              All-contains (λ call. (line : HLine) × (Contains t.history line × (line.call ≡ call))) A other
-              (map_all (λ call. (line : HLine) × (Contains t.history line × (line.call ≡ call))) (λ (line : HLine). line.call) (filter (λ line. is_reply line.reply) t.history)
-              (all_by (λ (line : HLine). (l : HLine) × (Contains t.history l × (l.call ≡ line.call))) (filter (λ line. is_reply line.reply) t.history)
+              All-contains (λ call. (line : HLine) × (Contains t.history line × (name.Client line.call ≡ call))) A other
+              (map_all (λ call. (line : HLine) × (Contains t.history line × (name.Client line.call ≡ call))) (λ (line : HLine). name.Client line.call) (filter (λ line. is_reply line.reply) t.history)
+              (all_by (λ (line : HLine). (l : HLine) × (Contains t.history l × (name.Client l.call ≡ name.Client line.call))) (filter (λ line. is_reply line.reply) t.history)
               (λ line there. (line, ((in_filter (λ (l : HLine). is_reply l.reply) t.history line there).0, refl))))) at
 
       first : Contains A call ⊎ Contains B call → Contains (H ++ B) call
@@ -413,31 +413,31 @@ module _ (script : Script) (core : Core) (known : EndKnown script core) where
       by zero e = absurd (true≢false (sym some ∙ ap (λ (l : List ℕ). list_any (nat_lt 0) l) (in_work.fresh e) ∙ no_zeros n))
       by (suc k) e = omega (arith, e)
 
-  client_takes : All Listed (lines_of_actors (λ i. take_lines (name.Client i)) core.clients)
+  client_takes : All Listed (lines_of_actors (λ i. take_lines (client_name i)) core.clients)
   client_takes =
-      all_indexed (λ i. take_lines (name.Client i)) Listed core.clients
+      all_indexed (λ i. take_lines (client_name i)) Listed core.clients
       (λ i c is.
       let work : (w : Work) × (slice_get (client_work script) i ≡ Some w) = client_has script core known i c is in
-      All-append Listed (lines_of_ended (λ number ended. take_line (name.Client i number) ended.takes) c) (take_line (name.Client i (length c.ended)) c.takes)
-      (all_indexed (λ number ended. take_line (name.Client i number) ended.takes) Listed c.ended
+      All-append Listed (lines_of_ended (λ number ended. take_line (client_name i number) ended.takes) c) (take_line (client_name i (length c.ended)) c.takes)
+      (all_indexed (λ number ended. take_line (client_name i number) ended.takes) Listed c.ended
       (λ number e is_e.
-      one_take (name.Client i number) e.takes
-      (λ some. answered_listed (name.Client i number) (ended_answered script core known (name.Client i number) (subst (λ o. number < ended_of o) (sym is) (slice_get_within c.ended number e is_e))))))
-      (one_take (name.Client i (length c.ended)) c.takes
-      (λ some. open_listed (name.Client i (length c.ended)) (client_begun i c is (begun_takes (chunk_count script.geometry) work.0 c (known.calls.clients i c is work.0 work.1) some)))))
+      one_take (client_name i number) e.takes
+      (λ some. answered_listed (client_name i number) (ended_answered script core known (client_name i number) (subst (λ o. number < ended_of o) (sym is) (slice_get_within c.ended number e is_e))))))
+      (one_take (client_name i (length c.ended)) c.takes
+      (λ some. open_listed (client_name i (length c.ended)) (client_begun i c is (begun_takes (chunk_count script.geometry) work.0 c (known.calls.clients i c is work.0 work.1) some)))))
 
-  repairer_takes : All Listed (lines_of_actors (λ i. take_lines (name.Repairer i)) core.repairers)
+  repairer_takes : All Listed (lines_of_actors (λ i. take_lines (repairer_name i)) core.repairers)
   repairer_takes =
-      all_indexed (λ i. take_lines (name.Repairer i)) Listed core.repairers
+      all_indexed (λ i. take_lines (repairer_name i)) Listed core.repairers
       (λ i c is.
       let work : (w : Work) × (slice_get (repairer_work script) i ≡ Some w) = repairer_has script core known i c is in
-      All-append Listed (lines_of_ended (λ number ended. take_line (name.Repairer i number) ended.takes) c) (take_line (name.Repairer i (length c.ended)) c.takes)
-      (all_indexed (λ number ended. take_line (name.Repairer i number) ended.takes) Listed c.ended
+      All-append Listed (lines_of_ended (λ number ended. take_line (repairer_name i number) ended.takes) c) (take_line (repairer_name i (length c.ended)) c.takes)
+      (all_indexed (λ number ended. take_line (repairer_name i number) ended.takes) Listed c.ended
       (λ number e is_e.
-      one_take (name.Repairer i number) e.takes
-      (λ some. answered_listed (name.Repairer i number) (ended_answered script core known (name.Repairer i number) (subst (λ o. number < ended_of o) (sym is) (slice_get_within c.ended number e is_e))))))
-      (one_take (name.Repairer i (length c.ended)) c.takes
-      (λ some. open_listed (name.Repairer i (length c.ended)) (repairer_begun i c is (begun_takes (chunk_count script.geometry) work.0 c (known.calls.repairers i c is work.0 work.1) some)))))
+      one_take (repairer_name i number) e.takes
+      (λ some. answered_listed (repairer_name i number) (ended_answered script core known (repairer_name i number) (subst (λ o. number < ended_of o) (sym is) (slice_get_within c.ended number e is_e))))))
+      (one_take (repairer_name i (length c.ended)) c.takes
+      (λ some. open_listed (repairer_name i (length c.ended)) (repairer_begun i c is (begun_takes (chunk_count script.geometry) work.0 c (known.calls.repairers i c is work.0 work.1) some)))))
 
   pub takes : All Listed t.takes
-  takes = All-append Listed (lines_of_actors (λ i. take_lines (name.Client i)) core.clients) (lines_of_actors (λ i. take_lines (name.Repairer i)) core.repairers) client_takes repairer_takes
+  takes = All-append Listed (lines_of_actors (λ i. take_lines (client_name i)) core.clients) (lines_of_actors (λ i. take_lines (repairer_name i)) core.repairers) client_takes repairer_takes

@@ -6,12 +6,12 @@ use Rattle.std.proofs.lemmas.List.Elements.{All-nil, All-cons, All-contains, Con
 use Rattle.std.specs.List.{slice_get}
 use Rattle.std.specs.Option.{option_map_or}
 use Rattle.store_map.specs.Limits.{size_of, tries_of}
-use Rattle.store_map.specs.declared.actor.Actor.{Actor}
 use Rattle.store_map.specs.declared.actor.Actor.TheVariants as actor
 use Rattle.store_map.specs.declared.reply.Reply.{Reply}
 use Rattle.store_map.specs.declared.script.ClientPart.{ClientPart}
 use Rattle.store_map.specs.declared.script.RepairPart.{RepairPart}
 use Rattle.store_map.specs.declared.script.Script.{Script}
+use Rattle.store_map.specs.declared.call_name.ClientCall.{ClientCall}
 use Rattle.store_map.specs.declared.call_name.CallName.{CallName}
 use Rattle.store_map.specs.declared.call_name.CallName.TheVariants as name
 use Rattle.store_map.specs.declared.cause.Cause.{Cause}
@@ -27,11 +27,12 @@ use Rattle.hist_rules.specs.Named.{is_reply, answered_calls}
 use Rattle.store_core.specs.Act.{Outcome}
 use Rattle.store_core.specs.Core.{Core}
 use Rattle.store_core.specs.Directory.{Event, Point}
-use Rattle.store_core.specs.History.{is_answered, is_answer, answered_in, shown_at, name_of, call_of, history_of}
+use Rattle.store_core.specs.History.{is_answered, is_answer, answered_in, shown_at, client_call, call_of, history_of}
 use Rattle.store_core.specs.NextAct.{Job, job_of, rebuild_job}
 use Rattle.store_core.specs.Note.{Kind}
 use Rattle.store_core.specs.Outcomes.{cause_of, result_of}
-use Rattle.store_core.specs.Shown.{shown, refused_line, repair_line, lines_of_ended}
+use Rattle.store_core.specs.RowLines.{client, repair}
+use Rattle.store_core.specs.Shown.{shown, refused_line, repair_line, lines_of_ended, client_name, repairer_name}
 use Rattle.store_core.specs.Work.{Ended, Work, Calling, client_work, repairer_work}
 use Rattle.run_laws.specs.OutcomeLaws.{IsOutcomeOf, MayBeServed}
 use Rattle.run_laws.proofs.StepOutcomes.{outcomes_in_steps}
@@ -41,6 +42,7 @@ use Rattle.run_laws.proofs.RunsSound.{RunKeeps, fit_clients, fit_repairers}
 use Rattle.history_laws.specs.HasPoints.{IsReply, IsPin, PointAt, HasItsPoint}
 use Rattle.history_laws.proofs.HistoryOrder.{LinesInOrder}
 use Rattle.history_laws.proofs.NamedCalls.{AllCalls, inside}
+use Rattle.history_laws.proofs.Naming.{named_client}
 use Rattle.history_laws.proofs.OrderLists.{map_all, map_contains, all_indexed, in_indexed}
 use Rattle.history_laws.proofs.OrderPoints.{EventFits, PointFits}
 use Rattle.history_laws.proofs.OrderShown.{ShownPoint, LineOf, Replied, all_shown, line_there}
@@ -54,17 +56,17 @@ ended_of found = option_map_or (λ (c : Calling). length c.ended) found 0
 
 -- how many of this call's actor's calls have ended
 abbrev pub ended_count : Core → CallName → ℕ
-ended_count core (name.Client i number) = ended_of (slice_get core.clients i)
-ended_count core (name.Repairer i number) = ended_of (slice_get core.repairers i)
+ended_count core (name.Client call) = ended_of (slice_get core.clients call.client)
+ended_count core (name.Repairer call) = ended_of (slice_get core.repairers call.repairer)
 
 -- whether a call was answered
 abbrev pub answered_at : Core → CallName → Bool
-answered_at core (name.Client i number) = answered_in core (actor.Client i) number
-answered_at core (name.Repairer i number) = false
+answered_at core (name.Client call) = answered_in core (actor.Client call.client) call.number
+answered_at core (name.Repairer call) = false
 
 abbrev pub is_client : CallName → Bool
-is_client (name.Client i number) = true
-is_client (name.Repairer i number) = false
+is_client (name.Client call) = true
+is_client (name.Repairer call) = false
 
 below_by : (found : Option Calling) (number : ℕ) → is_answer (option_and_then (λ (c : Calling). slice_get c.ended number) found) ≡ true → number < ended_of found
 below_by None number e = absurd (true≢false (sym e))
@@ -76,8 +78,8 @@ below_by (Some c) number e = by (slice_get c.ended number) refl e
 
 -- an answered call has ended
 pub answered_below : (core : Core) (call : CallName) → answered_at core call ≡ true → number_of call < ended_count core call
-answered_below core (name.Client i number) e = below_by (slice_get core.clients i) number e
-answered_below core (name.Repairer i number) e = absurd (true≢false (sym e))
+answered_below core (name.Client call) e = below_by (slice_get core.clients call.client) call.number e
+answered_below core (name.Repairer call) e = absurd (true≢false (sym e))
 
 -- ---- outcomes
 -- a client's outcome without a reply has a cause
@@ -143,10 +145,10 @@ module _ (script : Script) (core : Core) (known : EndKnown script core) where
   t = shown script core
 
   abbrev client_calls : ℕ → ℕ → Ended → List XLine
-  client_calls i number ended = refused_line (name.Client i number) (cause_of ended.outcome)
+  client_calls i number ended = refused_line (client i number) (cause_of ended.outcome)
 
   abbrev repairer_calls : ℕ → ℕ → Ended → List RLine
-  repairer_calls i number ended = repair_line (name.Repairer i number) (result_of ended.outcome)
+  repairer_calls i number ended = repair_line (repair i number) (result_of ended.outcome)
 
   -- the work of each actor
   pub client_has : (i : ℕ) (c : Calling) → slice_get core.clients i ≡ Some c → (w : Work) × (slice_get (client_work script) i ≡ Some w)
@@ -206,29 +208,18 @@ module _ (script : Script) (core : Core) (known : EndKnown script core) where
       by (Some c) is e = event_answered i point mapped says c is point.event (at_all (PointFits script i c) core.directory.points at point (known.fits i c is) found mine) e replied
 
   -- a line with a reply is of an answered call
-  reply_answered : (line : HLine) → ShownPoint script core core.directory.points line → is_reply line.reply ≡ true → answered_at core line.call ≡ true
-  reply_answered line of replied = by of.point.actor refl of.named
-    where
-      by : (who : Actor) → of.point.actor ≡ who → name_of who of.point.number ≡ Some line.call → answered_at core line.call ≡ true
-      by (actor.Client i) mine e =
-          subst (λ c. answered_at core c ≡ true) (same_Some (name.Client i of.point.number) line.call e)
-          (point_client of.point i mine of.at of.found of.mapped line.reply of.says replied)
-      by (actor.Repairer i) mine e =
-          absurd (no_client (at_all (IsOfScript script) core.directory.points of.at of.point known.points of.found))
-        where
-          no_client : (of.point.event ≡ Event.Reaped) ⊎ IsOfCall script of.point → ⊥
-          no_client (inl reaped) = none-some line.reply (subst (λ event. shown_at event (answered_in core of.point.actor of.point.number) of.mapped ≡ Some line.reply) reaped of.says)
-          no_client (inr call) = none-some call.call (subst (λ a. call_of script a of.point.number ≡ Some call.call) mine call.is_call)
-      by actor.Sweeper mine e = absurd (none-some line.call e)
-      by actor.Operator mine e = absurd (none-some line.call e)
+  reply_answered : (line : HLine) → ShownPoint script core core.directory.points line → is_reply line.reply ≡ true → answered_at core (name.Client line.call) ≡ true
+  reply_answered line of replied =
+      let named : (of.point.actor ≡ actor.Client line.call.client) × (of.point.number ≡ line.call.number) = named_client of.point.actor of.point.number line.call of.named in
+      subst (λ n. answered_in core (actor.Client line.call.client) n ≡ true) named.1 (point_client of.point line.call.client named.0 of.at of.found of.mapped line.reply of.says replied)
 
   abbrev pub replied_calls : List CallName
-  replied_calls = map (λ line. line.call) (filter (λ line. is_reply line.reply) t.history)
+  replied_calls = map (λ line. name.Client line.call) (filter (λ line. is_reply line.reply) t.history)
 
   pub all_replied : All (λ call. answered_at core call ≡ true) replied_calls
   all_replied =
-      map_all (λ call. answered_at core call ≡ true) (λ (line : HLine). line.call) (filter (λ line. is_reply line.reply) t.history)
-      (all_by (λ (line : HLine). answered_at core line.call ≡ true) (filter (λ line. is_reply line.reply) t.history)
+      map_all (λ call. answered_at core call ≡ true) (λ (line : HLine). name.Client line.call) (filter (λ line. is_reply line.reply) t.history)
+      (all_by (λ (line : HLine). answered_at core (name.Client line.call) ≡ true) (filter (λ line. is_reply line.reply) t.history)
       (λ line has.
       let there : Contains t.history line × (is_reply line.reply ≡ true) = in_filter (λ (l : HLine). is_reply l.reply) t.history line has in
       reply_answered line (All-contains (ShownPoint script core core.directory.points) t.history line (all_shown script core) there.0) there.1))
@@ -269,10 +260,10 @@ module _ (script : Script) (core : Core) (known : EndKnown script core) where
   answered_is : (i : ℕ) (c : Calling) → slice_get core.clients i ≡ Some c → (number : ℕ) (e : Ended) → slice_get c.ended number ≡ Some e → answered_in core (actor.Client i) number ≡ is_answered e.outcome
   answered_is i c is_c number e is_e = ap (λ o. is_answer (option_and_then (λ (x : Calling). slice_get x.ended number) o)) is_c ∙ ap is_answer is_e
 
-  client_below : (i : ℕ) (c : Calling) → slice_get core.clients i ≡ Some c → (number : ℕ) (e : Ended) → slice_get c.ended number ≡ Some e → number < ended_count core (name.Client i number)
+  client_below : (i : ℕ) (c : Calling) → slice_get core.clients i ≡ Some c → (number : ℕ) (e : Ended) → slice_get c.ended number ≡ Some e → number < ended_count core (client_name i number)
   client_below i c is_c number e is_e = subst (λ o. number < ended_of o) (sym is_c) (slice_get_within c.ended number e is_e)
 
-  repairer_below : (i : ℕ) (c : Calling) → slice_get core.repairers i ≡ Some c → (number : ℕ) (e : Ended) → slice_get c.ended number ≡ Some e → number < ended_count core (name.Repairer i number)
+  repairer_below : (i : ℕ) (c : Calling) → slice_get core.repairers i ≡ Some c → (number : ℕ) (e : Ended) → slice_get c.ended number ≡ Some e → number < ended_count core (repairer_name i number)
   repairer_below i c is_c number e is_e = subst (λ o. number < ended_of o) (sym is_c) (slice_get_within c.ended number e is_e)
 
   replied_at : (event : Event) → IsReply event ⊎ IsPin event → (mapped : Reply) → Replied script core (shown_at event true mapped)
@@ -283,70 +274,70 @@ module _ (script : Script) (core : Core) (known : EndKnown script core) where
   replied_at Event.Reaped (inr h) mapped = h
 
   point_line : (i number : ℕ) → answered_in core (actor.Client i) number ≡ true → (Is : Event → Type 0) → ((event : Event) → Is event → IsReply event ⊎ IsPin event) → (place : ℕ) → PointAt (actor.Client i) number Is core.directory.points place
-      → LineOf script core t.history (name.Client i number)
+      → LineOf script core t.history (client i number)
   point_line i number is_answered_now Is either place at =
-      line_there script core place at.point at.found (name.Client i number) ((λ k. name_of (at.mine k) (at.of_call k)))
+      line_there script core place at.point at.found (client i number) ((λ k. client_call (at.mine k) (at.of_call k)))
       (λ mapped.
       subst (λ b. Replied script core (shown_at at.point.event b mapped)) (sym ((λ k. answered_in core (at.mine k) (at.of_call k)) ∙ is_answered_now)) (replied_at at.point.event (either at.point.event at.is) mapped))
 
-  client_line : (i number : ℕ) (outcome : Outcome) → is_answered outcome ≡ true → answered_in core (actor.Client i) number ≡ true → HasItsPoint (actor.Client i) number core.directory.points outcome → LineOf script core t.history (name.Client i number)
+  client_line : (i number : ℕ) (outcome : Outcome) → is_answered outcome ≡ true → answered_in core (actor.Client i) number ≡ true → HasItsPoint (actor.Client i) number core.directory.points outcome → LineOf script core t.history (client i number)
   client_line i number (Outcome.Answered point given) e now_answered at = point_line i number now_answered IsReply (λ event h. inl h) point at
   client_line i number (Outcome.Served point) e now_answered at = point_line i number now_answered IsPin (λ event h. inr h) point at
   client_line i number outcome e now_answered at = absurd (true≢false (sym e))
 
   abbrev pub refused_calls : List CallName
-  refused_calls = map (λ line. line.call) t.refused
+  refused_calls = map (λ line. name.Client line.call) t.refused
 
   abbrev pub repair_calls : List CallName
-  repair_calls = map (λ line. line.call) t.repairs
+  repair_calls = map (λ line. name.Repairer line.call) t.repairs
 
-  replied_there : (call : CallName) → LineOf script core t.history call → Contains replied_calls call
+  replied_there : (call : ClientCall) → LineOf script core t.history call → Contains replied_calls (name.Client call)
   replied_there call of =
-      subst (Contains replied_calls) of.of_call
-      (map_contains (λ (line : HLine). line.call) (filter (λ line. is_reply line.reply) t.history) of.line (filtered (λ (line : HLine). is_reply line.reply) t.history of.line of.replied of.stands))
+      subst (λ c. Contains replied_calls (name.Client c)) of.of_call
+      (map_contains (λ (line : HLine). name.Client line.call) (filter (λ line. is_reply line.reply) t.history) of.line (filtered (λ (line : HLine). is_reply line.reply) t.history of.line of.replied of.stands))
 
-  refused_there : (i : ℕ) (c : Calling) → slice_get core.clients i ≡ Some c → (number : ℕ) (e : Ended) → slice_get c.ended number ≡ Some e → Caused e.outcome → Contains refused_calls (name.Client i number)
+  refused_there : (i : ℕ) (c : Calling) → slice_get core.clients i ≡ Some c → (number : ℕ) (e : Ended) → slice_get c.ended number ≡ Some e → Caused e.outcome → Contains refused_calls (client_name i number)
   refused_there i c is_c number e is_e caused =
-      let line : XLine = record { call = name.Client i number; cause = caused.cause } in
-      map_contains (λ (l : XLine). l.call) t.refused line
+      let line : XLine = record { call = client i number; cause = caused.cause } in
+      map_contains (λ (l : XLine). name.Client l.call) t.refused line
       (in_indexed (λ j. lines_of_ended (client_calls j)) core.clients i c line is_c
-      (in_indexed (client_calls i) c.ended number e line is_e (subst (λ found. Contains (refused_line (name.Client i number) found) line) (sym caused.is) (contains_at (line ∷ []) 0 line refl))))
+      (in_indexed (client_calls i) c.ended number e line is_e (subst (λ found. Contains (refused_line (client i number) found) line) (sym caused.is) (contains_at (line ∷ []) 0 line refl))))
 
-  repair_there : (i : ℕ) (c : Calling) → slice_get core.repairers i ≡ Some c → (number : ℕ) (e : Ended) → slice_get c.ended number ≡ Some e → Resulted e.outcome → Contains repair_calls (name.Repairer i number)
+  repair_there : (i : ℕ) (c : Calling) → slice_get core.repairers i ≡ Some c → (number : ℕ) (e : Ended) → slice_get c.ended number ≡ Some e → Resulted e.outcome → Contains repair_calls (repairer_name i number)
   repair_there i c is_c number e is_e resulted =
-      let line : RLine = record { call = name.Repairer i number; result = resulted.result } in
-      map_contains (λ (l : RLine). l.call) t.repairs line
+      let line : RLine = record { call = repair i number; result = resulted.result } in
+      map_contains (λ (l : RLine). name.Repairer l.call) t.repairs line
       (in_indexed (λ j. lines_of_ended (repairer_calls j)) core.repairers i c line is_c
-      (in_indexed (repairer_calls i) c.ended number e line is_e (subst (λ found. Contains (repair_line (name.Repairer i number) found) line) (sym resulted.is) (contains_at (line ∷ []) 0 line refl))))
+      (in_indexed (repairer_calls i) c.ended number e line is_e (subst (λ found. Contains (repair_line (repair i number) found) line) (sym resulted.is) (contains_at (line ∷ []) 0 line refl))))
 
   first_part : (call : CallName) → Contains replied_calls call → Contains (answered_calls t) call
   first_part call has = Contains-append_left (replied_calls ++ refused_calls) repair_calls call (Contains-append_left replied_calls refused_calls call has)
 
-  client_ended : (i : ℕ) (c : Calling) → slice_get core.clients i ≡ Some c → (number : ℕ) (e : Ended) → slice_get c.ended number ≡ Some e → Contains (answered_calls t) (name.Client i number)
+  client_ended : (i : ℕ) (c : Calling) → slice_get core.clients i ≡ Some c → (number : ℕ) (e : Ended) → slice_get c.ended number ≡ Some e → Contains (answered_calls t) (client_name i number)
   client_ended i c is_c number e is_e = by (is_answered e.outcome) refl
     where
-      by : (b : Bool) → is_answered e.outcome ≡ b → Contains (answered_calls t) (name.Client i number)
-      by true is = first_part (name.Client i number) (replied_there (name.Client i number) (client_line i number e.outcome is (answered_is i c is_c number e is_e ∙ is) (known.has_points i c is_c number e is_e)))
+      by : (b : Bool) → is_answered e.outcome ≡ b → Contains (answered_calls t) (client_name i number)
+      by true is = first_part (client_name i number) (replied_there (client i number) (client_line i number e.outcome is (answered_is i c is_c number e is_e ∙ is) (known.has_points i c is_c number e is_e)))
       by false is =
-          Contains-append_left (replied_calls ++ refused_calls) repair_calls (name.Client i number)
-          (Contains-append_right replied_calls refused_calls (name.Client i number) (refused_there i c is_c number e is_e (client_caused i c is_c number e is_e is)))
+          Contains-append_left (replied_calls ++ refused_calls) repair_calls (client_name i number)
+          (Contains-append_right replied_calls refused_calls (client_name i number) (refused_there i c is_c number e is_e (client_caused i c is_c number e is_e is)))
 
-  repairer_ended : (i : ℕ) (c : Calling) → slice_get core.repairers i ≡ Some c → (number : ℕ) (e : Ended) → slice_get c.ended number ≡ Some e → Contains (answered_calls t) (name.Repairer i number)
+  repairer_ended : (i : ℕ) (c : Calling) → slice_get core.repairers i ≡ Some c → (number : ℕ) (e : Ended) → slice_get c.ended number ≡ Some e → Contains (answered_calls t) (repairer_name i number)
   repairer_ended i c is_c number e is_e =
-      Contains-append_right (replied_calls ++ refused_calls) repair_calls (name.Repairer i number) (repair_there i c is_c number e is_e (repairer_resulted i c is_c number e is_e))
+      Contains-append_right (replied_calls ++ refused_calls) repair_calls (repairer_name i number) (repair_there i c is_c number e is_e (repairer_resulted i c is_c number e is_e))
 
   -- all calls that have ended are answered
   pub ended_answered : (call : CallName) → number_of call < ended_count core call → Contains (answered_calls t) call
-  ended_answered (name.Client i number) low = by (slice_get core.clients i) refl low
+  ended_answered (name.Client call) low = by (slice_get core.clients call.client) refl low
     where
-      by : (found : Option Calling) → slice_get core.clients i ≡ found → number < ended_of found → Contains (answered_calls t) (name.Client i number)
+      by : (found : Option Calling) → slice_get core.clients call.client ≡ found → call.number < ended_of found → Contains (answered_calls t) (name.Client call)
       by None is low = absurd (omega (arith, low))
-      by (Some c) is low = let e : (x : Ended) × (slice_get c.ended number ≡ Some x) = inside c.ended number low in client_ended i c is number e.0 e.1
-  ended_answered (name.Repairer i number) low = by (slice_get core.repairers i) refl low
+      by (Some c) is low = let e : (x : Ended) × (slice_get c.ended call.number ≡ Some x) = inside c.ended call.number low in client_ended call.client c is call.number e.0 e.1
+  ended_answered (name.Repairer call) low = by (slice_get core.repairers call.repairer) refl low
     where
-      by : (found : Option Calling) → slice_get core.repairers i ≡ found → number < ended_of found → Contains (answered_calls t) (name.Repairer i number)
+      by : (found : Option Calling) → slice_get core.repairers call.repairer ≡ found → call.number < ended_of found → Contains (answered_calls t) (name.Repairer call)
       by None is low = absurd (omega (arith, low))
-      by (Some c) is low = let e : (x : Ended) × (slice_get c.ended number ≡ Some x) = inside c.ended number low in repairer_ended i c is number e.0 e.1
+      by (Some c) is low = let e : (x : Ended) × (slice_get c.ended call.number ≡ Some x) = inside c.ended call.number low in repairer_ended call.repairer c is call.number e.0 e.1
 
   -- ---- what the other lines of answers are of
   abbrev pub IsRefused : CallName → Type 0
@@ -357,25 +348,25 @@ module _ (script : Script) (core : Core) (known : EndKnown script core) where
 
   pub all_refused : All IsRefused refused_calls
   all_refused =
-      map_all IsRefused (λ (line : XLine). line.call) t.refused
-      (all_indexed (λ j. lines_of_ended (client_calls j)) (λ (line : XLine). IsRefused line.call) core.clients
-      (λ i c is_c. all_indexed (client_calls i) (λ (line : XLine). IsRefused line.call) c.ended (λ number e is_e. one i c is_c number e is_e (cause_of e.outcome) refl)))
+      map_all IsRefused (λ (line : XLine). name.Client line.call) t.refused
+      (all_indexed (λ j. lines_of_ended (client_calls j)) (λ (line : XLine). IsRefused (name.Client line.call)) core.clients
+      (λ i c is_c. all_indexed (client_calls i) (λ (line : XLine). IsRefused (name.Client line.call)) c.ended (λ number e is_e. one i c is_c number e is_e (cause_of e.outcome) refl)))
     where
       one : (i : ℕ) (c : Calling) → slice_get core.clients i ≡ Some c → (number : ℕ) (e : Ended) → slice_get c.ended number ≡ Some e → (found : Option Cause) → cause_of e.outcome ≡ found
-          → All (λ (line : XLine). IsRefused line.call) (refused_line (name.Client i number) found)
-      one i c is_c number e is_e None is = All-nil (λ (line : XLine). IsRefused line.call)
+          → All (λ (line : XLine). IsRefused (name.Client line.call)) (refused_line (client i number) found)
+      one i c is_c number e is_e None is = All-nil (λ (line : XLine). IsRefused (name.Client line.call))
       one i c is_c number e is_e (Some cause) is =
-          All-cons (λ (line : XLine). IsRefused line.call) (record { call = name.Client i number; cause = cause }) []
-          (answered_is i c is_c number e is_e ∙ no_reply e.outcome cause is, (refl, client_below i c is_c number e is_e)) (All-nil (λ (line : XLine). IsRefused line.call))
+          All-cons (λ (line : XLine). IsRefused (name.Client line.call)) (record { call = client i number; cause = cause }) []
+          (answered_is i c is_c number e is_e ∙ no_reply e.outcome cause is, (refl, client_below i c is_c number e is_e)) (All-nil (λ (line : XLine). IsRefused (name.Client line.call)))
 
   pub all_results : All IsResult repair_calls
   all_results =
-      map_all IsResult (λ (line : RLine). line.call) t.repairs
-      (all_indexed (λ j. lines_of_ended (repairer_calls j)) (λ (line : RLine). IsResult line.call) core.repairers
-      (λ i c is_c. all_indexed (repairer_calls i) (λ (line : RLine). IsResult line.call) c.ended (λ number e is_e. one i c is_c number e is_e (result_of e.outcome))))
+      map_all IsResult (λ (line : RLine). name.Repairer line.call) t.repairs
+      (all_indexed (λ j. lines_of_ended (repairer_calls j)) (λ (line : RLine). IsResult (name.Repairer line.call)) core.repairers
+      (λ i c is_c. all_indexed (repairer_calls i) (λ (line : RLine). IsResult (name.Repairer line.call)) c.ended (λ number e is_e. one i c is_c number e is_e (result_of e.outcome))))
     where
       one : (i : ℕ) (c : Calling) → slice_get core.repairers i ≡ Some c → (number : ℕ) (e : Ended) → slice_get c.ended number ≡ Some e → (found : Option RepairResult)
-          → All (λ (line : RLine). IsResult line.call) (repair_line (name.Repairer i number) found)
-      one i c is_c number e is_e None = All-nil (λ (line : RLine). IsResult line.call)
+          → All (λ (line : RLine). IsResult (name.Repairer line.call)) (repair_line (repair i number) found)
+      one i c is_c number e is_e None = All-nil (λ (line : RLine). IsResult (name.Repairer line.call))
       one i c is_c number e is_e (Some result) =
-          All-cons (λ (line : RLine). IsResult line.call) (record { call = name.Repairer i number; result = result }) [] (refl, repairer_below i c is_c number e is_e) (All-nil (λ (line : RLine). IsResult line.call))
+          All-cons (λ (line : RLine). IsResult (name.Repairer line.call)) (record { call = repair i number; result = result }) [] (refl, repairer_below i c is_c number e is_e) (All-nil (λ (line : RLine). IsResult (name.Repairer line.call)))

@@ -7,14 +7,14 @@ use Rattle.store_map.specs.Limits.{size_of}
 use Rattle.store_map.specs.PlainMap.{Objects}
 use Rattle.store_map.specs.declared.reply.Reply.{Reply}
 use Rattle.store_map.specs.declared.script.Script.{Script}
-use Rattle.store_map.specs.declared.call_name.CallName.{CallName}
+use Rattle.store_map.specs.declared.call_name.ClientCall.{ClientCall}
 use Rattle.store_map.specs.declared.shown.Shown.{Shown}
 use Rattle.store_map.specs.declared.line.HLine.{HLine}
 use Rattle.hist_rules.specs.Named.{is_reply}
 use Rattle.run_laws.proofs.SoundLists.{contains_at}
 use Rattle.store_core.specs.Core.{Core}
 use Rattle.store_core.specs.Directory.{Point}
-use Rattle.store_core.specs.History.{call_of, answered_in, applied, shown_at, name_of, line_of, history_from, history_of}
+use Rattle.store_core.specs.History.{call_of, answered_in, applied, shown_at, client_call, line_of, history_from, history_of}
 
 module _ (script : Script) (core : Core) where
   abbrev from : ℕ → Objects → List Point → List HLine
@@ -25,11 +25,11 @@ module _ (script : Script) (core : Core) where
     pub at : ℕ
     pub point : Point
     pub found : slice_get points at ≡ Some point
-    pub named : name_of point.actor point.number ≡ Some line.call
+    pub named : client_call point.actor point.number ≡ Some line.call
     pub mapped : Reply
     pub says : shown_at point.event (answered_in core point.actor point.number) mapped ≡ Some line.reply
 
-  own_line : (place : ℕ) (point : Point) (points : List Point) (mapped : Reply) (nm : Option CallName) (says : Option Shown) → name_of point.actor point.number ≡ nm
+  own_line : (place : ℕ) (point : Point) (points : List Point) (mapped : Reply) (nm : Option ClientCall) (says : Option Shown) → client_call point.actor point.number ≡ nm
       → shown_at point.event (answered_in core point.actor point.number) mapped ≡ says → All (ShownPoint (point ∷ points)) (line_of place nm says)
   own_line place point points mapped None says e k = All-nil (ShownPoint (point ∷ points))
   own_line place point points mapped (Some call) None e k = All-nil (ShownPoint (point ∷ points))
@@ -44,8 +44,8 @@ module _ (script : Script) (core : Core) where
   all_from place objects [] = All-nil (ShownPoint [])
   all_from place objects (point ∷ points) =
       let after : Objects × Reply = applied (size_of script) objects point.event (call_of script point.actor point.number) in
-      All-append (ShownPoint (point ∷ points)) (line_of place (name_of point.actor point.number) (shown_at point.event (answered_in core point.actor point.number) after.1)) (from (place + 1) after.0 points)
-      (own_line place point points after.1 (name_of point.actor point.number) (shown_at point.event (answered_in core point.actor point.number) after.1) refl refl)
+      All-append (ShownPoint (point ∷ points)) (line_of place (client_call point.actor point.number) (shown_at point.event (answered_in core point.actor point.number) after.1)) (from (place + 1) after.0 points)
+      (own_line place point points after.1 (client_call point.actor point.number) (shown_at point.event (answered_in core point.actor point.number) after.1) refl refl)
       (All-weaker (ShownPoint points) (ShownPoint (point ∷ points)) (later_point point points) (from (place + 1) after.0 points) (all_from (place + 1) after.0 points))
 
   pub all_shown : All (ShownPoint core.directory.points) (history_of script core)
@@ -56,13 +56,13 @@ module _ (script : Script) (core : Core) where
   Replied None = ⊥
   Replied (Some says) = is_reply says ≡ true
 
-  pub record LineOf (lines : List HLine) (call : CallName) : Type 0 where
+  pub record LineOf (lines : List HLine) (call : ClientCall) : Type 0 where
     pub line : HLine
     pub stands : Contains lines line
     pub of_call : line.call ≡ call
     pub replied : is_reply line.reply ≡ true
 
-  head_line : (place : ℕ) (call : CallName) (rest : List HLine) (nm : Option CallName) (says : Option Shown) → nm ≡ Some call → Replied says → LineOf (line_of place nm says ++ rest) call
+  head_line : (place : ℕ) (call : ClientCall) (rest : List HLine) (nm : Option ClientCall) (says : Option Shown) → nm ≡ Some call → Replied says → LineOf (line_of place nm says ++ rest) call
   head_line place call rest None says e replied = absurd (none-some call e)
   head_line place call rest (Some other) None e replied = absurd replied
   head_line place call rest (Some other) (Some says) e replied =
@@ -73,23 +73,23 @@ module _ (script : Script) (core : Core) where
         replied = replied;
       }
 
-  tail_line : (some rest : List HLine) (call : CallName) → LineOf rest call → LineOf (some ++ rest) call
+  tail_line : (some rest : List HLine) (call : ClientCall) → LineOf rest call → LineOf (some ++ rest) call
   tail_line some rest call of = record { line = of.line; stands = Contains-append_right some rest of.line of.stands; of_call = of.of_call; replied = of.replied }
 
-  line_from : (place : ℕ) (objects : Objects) (points : List Point) (at : ℕ) (point : Point) → slice_get points at ≡ Some point → (call : CallName) → name_of point.actor point.number ≡ Some call
+  line_from : (place : ℕ) (objects : Objects) (points : List Point) (at : ℕ) (point : Point) → slice_get points at ≡ Some point → (call : ClientCall) → client_call point.actor point.number ≡ Some call
       → ((mapped : Reply) → Replied (shown_at point.event (answered_in core point.actor point.number) mapped)) → LineOf (from place objects points) call
   line_from place objects [] at point e call named replied = absurd (none-some point e)
   line_from place objects (other ∷ points) zero point e call named replied =
       let same : other ≡ point = same_Some other point e in
       let after : Objects × Reply = applied (size_of script) objects other.event (call_of script other.actor other.number) in
-      head_line place call (from (place + 1) after.0 points) (name_of other.actor other.number) (shown_at other.event (answered_in core other.actor other.number) after.1)
-      (subst (λ (p : Point). name_of p.actor p.number ≡ Some call) (sym same) named)
+      head_line place call (from (place + 1) after.0 points) (client_call other.actor other.number) (shown_at other.event (answered_in core other.actor other.number) after.1)
+      (subst (λ (p : Point). client_call p.actor p.number ≡ Some call) (sym same) named)
       (subst (λ (p : Point). Replied (shown_at p.event (answered_in core p.actor p.number) after.1)) (sym same) (replied after.1))
   line_from place objects (other ∷ points) (suc at) point e call named replied =
       let after : Objects × Reply = applied (size_of script) objects other.event (call_of script other.actor other.number) in
-      tail_line (line_of place (name_of other.actor other.number) (shown_at other.event (answered_in core other.actor other.number) after.1)) (from (place + 1) after.0 points) call
+      tail_line (line_of place (client_call other.actor other.number) (shown_at other.event (answered_in core other.actor other.number) after.1)) (from (place + 1) after.0 points) call
       (line_from (place + 1) after.0 points at point e call named replied)
 
-  pub line_there : (at : ℕ) (point : Point) → slice_get core.directory.points at ≡ Some point → (call : CallName) → name_of point.actor point.number ≡ Some call
+  pub line_there : (at : ℕ) (point : Point) → slice_get core.directory.points at ≡ Some point → (call : ClientCall) → client_call point.actor point.number ≡ Some call
       → ((mapped : Reply) → Replied (shown_at point.event (answered_in core point.actor point.number) mapped)) → LineOf (history_of script core) call
   line_there at point e call named replied = line_from 0 [] core.directory.points at point e call named replied

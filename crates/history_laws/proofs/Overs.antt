@@ -14,6 +14,8 @@ use Rattle.store_map.specs.declared.reply.Reply.{Reply}
 use Rattle.store_map.specs.declared.script.ClientPart.{ClientPart}
 use Rattle.store_map.specs.declared.script.RepairPart.{RepairPart}
 use Rattle.store_map.specs.declared.script.Script.{Script}
+use Rattle.store_map.specs.declared.call_name.ClientCall.{ClientCall}
+use Rattle.store_map.specs.declared.call_name.RepairCall.{RepairCall}
 use Rattle.store_map.specs.declared.call_name.CallName.{CallName}
 use Rattle.store_map.specs.declared.call_name.CallName.TheVariants as name
 use Rattle.store_map.specs.declared.line.HLine.{HLine}
@@ -29,7 +31,7 @@ use Rattle.store_core.specs.Bounds.{touched_count}
 use Rattle.store_core.specs.Core.{Core}
 use Rattle.store_core.specs.NextAct.{Job, job_of, rebuild_job, next_act}
 use Rattle.store_core.specs.Schedule.{run_core}
-use Rattle.store_core.specs.Shown.{shown}
+use Rattle.store_core.specs.Shown.{shown, client_name, repairer_name}
 use Rattle.store_core.specs.Told.{Told}
 use Rattle.store_core.specs.Work.{Ended, Work, Calling, client_work, repairer_work}
 use Rattle.run_laws.specs.ToldInSteps.{act_after}
@@ -147,7 +149,7 @@ module _ (script : Script) (core : Core) (known : EndKnown script core) (trace :
   abbrev g : Shape
   g = script.geometry
 
-  pub client_place : (i number : ℕ) (job : Job) → job_of_call script (name.Client i number) ≡ Some job → Place (client_work script) core.clients i number job
+  pub client_place : (i number : ℕ) (job : Job) → job_of_call script (client_name i number) ≡ Some job → Place (client_work script) core.clients i number job
   client_place i number job is =
       let there : (work : Work) × (slice_get (client_work script) i ≡ Some work) × (slice_get work.jobs number ≡ Some job) = job_there (client_work script) i number job is in
       let low : i < length (client_work script) = slice_get_within (client_work script) i there.0 there.1 in
@@ -156,7 +158,7 @@ module _ (script : Script) (core : Core) (known : EndKnown script core) (trace :
       let calling : (c : Calling) × (slice_get core.clients i ≡ Some c) = inside core.clients i (omega (arith, low, size, same)) in
       record { work = there.0; is_work = there.1; is_job = there.2; calling = calling.0; is_calling = calling.1 }
 
-  pub repairer_place : (i number : ℕ) (job : Job) → job_of_call script (name.Repairer i number) ≡ Some job → Place (repairer_work script) core.repairers i number job
+  pub repairer_place : (i number : ℕ) (job : Job) → job_of_call script (repairer_name i number) ≡ Some job → Place (repairer_work script) core.repairers i number job
   repairer_place i number job is =
       let there : (work : Work) × (slice_get (repairer_work script) i ≡ Some work) × (slice_get work.jobs number ≡ Some job) = job_there (repairer_work script) i number job is in
       let low : i < length (repairer_work script) = slice_get_within (repairer_work script) i there.0 there.1 in
@@ -176,55 +178,55 @@ module _ (script : Script) (core : Core) (known : EndKnown script core) (trace :
 
   -- a call that is over has ended
   over_below : (call : CallName) → IsOver script trace call → number_of call < ended_count core call
-  over_below (name.Client i number) over =
-      let p : Place (client_work script) core.clients i number over.0 = client_place i number over.0 over.1 in
-      subst (λ o. number < ended_of o) (sym p.is_calling)
-      (over_ended g (size_of script) (tries_of script) known.can.tried (actor.Client i) p.work.jobs p.calling trace (has.clients i p.calling p.is_calling p.work p.is_work)
-      (client_going i p.work p.calling p.is_work p.is_calling) number over.0 p.is_job over.2.0 over.2.1)
-  over_below (name.Repairer i number) over =
-      let p : Place (repairer_work script) core.repairers i number over.0 = repairer_place i number over.0 over.1 in
-      subst (λ o. number < ended_of o) (sym p.is_calling)
-      (over_ended g (size_of script) (tries_of script) known.can.tried (actor.Repairer i) p.work.jobs p.calling trace (has.repairers i p.calling p.is_calling p.work p.is_work)
-      (repairer_going i p.work p.calling p.is_work p.is_calling) number over.0 p.is_job over.2.0 over.2.1)
+  over_below (name.Client call) over =
+      let p : Place (client_work script) core.clients call.client call.number over.0 = client_place call.client call.number over.0 over.1 in
+      subst (λ o. call.number < ended_of o) (sym p.is_calling)
+      (over_ended g (size_of script) (tries_of script) known.can.tried (actor.Client call.client) p.work.jobs p.calling trace (has.clients call.client p.calling p.is_calling p.work p.is_work)
+      (client_going call.client p.work p.calling p.is_work p.is_calling) call.number over.0 p.is_job over.2.0 over.2.1)
+  over_below (name.Repairer call) over =
+      let p : Place (repairer_work script) core.repairers call.repairer call.number over.0 = repairer_place call.repairer call.number over.0 over.1 in
+      subst (λ o. call.number < ended_of o) (sym p.is_calling)
+      (over_ended g (size_of script) (tries_of script) known.can.tried (actor.Repairer call.repairer) p.work.jobs p.calling trace (has.repairers call.repairer p.calling p.is_calling p.work p.is_work)
+      (repairer_going call.repairer p.work p.calling p.is_work p.is_calling) call.number over.0 p.is_job over.2.0 over.2.1)
 
   -- so has one that made all its steps
   module _ (steps : StepsSoFar script trace core) (bounds : KeepBounds script core.clients core.repairers) where
     enough_below : (call : CallName) → MadeAllSteps script trace call → number_of call < ended_count core call
-    enough_below (name.Client i number) all =
-        let p : Place (client_work script) core.clients i number all.0 = client_place i number all.0 all.1 in
-        subst (λ o. number < ended_of o) (sym p.is_calling)
-        (enough_ended script (actor.Client i) p.work p.calling trace (steps.clients i p.calling p.is_calling)
-        (both_there (KeepsPinnedBound script) (slice_get (client_work script) i) (slice_get core.clients i) p.work p.calling (bounds.clients_pinned i) p.is_work p.is_calling)
-        (has.clients i p.calling p.is_calling p.work p.is_work) number all.0 p.is_job all.2)
-    enough_below (name.Repairer i number) all =
-        let p : Place (repairer_work script) core.repairers i number all.0 = repairer_place i number all.0 all.1 in
-        subst (λ o. number < ended_of o) (sym p.is_calling)
-        (enough_ended script (actor.Repairer i) p.work p.calling trace (steps.repairers i p.calling p.is_calling)
-        (both_there (KeepsPinnedBound script) (slice_get (repairer_work script) i) (slice_get core.repairers i) p.work p.calling (bounds.repairers_pinned i) p.is_work p.is_calling)
-        (has.repairers i p.calling p.is_calling p.work p.is_work) number all.0 p.is_job all.2)
+    enough_below (name.Client call) all =
+        let p : Place (client_work script) core.clients call.client call.number all.0 = client_place call.client call.number all.0 all.1 in
+        subst (λ o. call.number < ended_of o) (sym p.is_calling)
+        (enough_ended script (actor.Client call.client) p.work p.calling trace (steps.clients call.client p.calling p.is_calling)
+        (both_there (KeepsPinnedBound script) (slice_get (client_work script) call.client) (slice_get core.clients call.client) p.work p.calling (bounds.clients_pinned call.client) p.is_work p.is_calling)
+        (has.clients call.client p.calling p.is_calling p.work p.is_work) call.number all.0 p.is_job all.2)
+    enough_below (name.Repairer call) all =
+        let p : Place (repairer_work script) core.repairers call.repairer call.number all.0 = repairer_place call.repairer call.number all.0 all.1 in
+        subst (λ o. call.number < ended_of o) (sym p.is_calling)
+        (enough_ended script (actor.Repairer call.repairer) p.work p.calling trace (steps.repairers call.repairer p.calling p.is_calling)
+        (both_there (KeepsPinnedBound script) (slice_get (repairer_work script) call.repairer) (slice_get core.repairers call.repairer) p.work p.calling (bounds.repairers_pinned call.repairer) p.is_work p.is_calling)
+        (has.repairers call.repairer p.calling p.is_calling p.work p.is_work) call.number all.0 p.is_job all.2)
 
   -- and a call that has ended is over
   pub below_over : (call : CallName) → number_of call < ended_count core call → IsOver script trace call
-  below_over (name.Client i number) low = by (slice_get core.clients i) refl low
+  below_over (name.Client call) low = by (slice_get core.clients call.client) refl low
     where
-      by : (found : Option Calling) → slice_get core.clients i ≡ found → number < ended_of found → IsOver script trace (name.Client i number)
+      by : (found : Option Calling) → slice_get core.clients call.client ≡ found → call.number < ended_of found → IsOver script trace (name.Client call)
       by None is low = absurd (omega (arith, low))
       by (Some c) is low =
-          let e : (x : Ended) × (slice_get c.ended number ≡ Some x) = inside c.ended number low in
-          let work : (w : Work) × (slice_get (client_work script) i ≡ Some w) = client_has script core known i c is in
-          let most : length c.ended ≤ length work.0.jobs = (known.calls.clients i c is work.0 work.1).below in
-          let job : (j : Job) × (slice_get work.0.jobs number ≡ Some j) = inside work.0.jobs number (omega (arith, most, low)) in
-          (job.0, ap (option_and_then (λ (w : Work). slice_get w.jobs number)) work.1 ∙ job.1, (e.0.outcome, ((has.clients i c is work.0 work.1).ended number job.0 e.0 job.1 e.1).1))
-  below_over (name.Repairer i number) low = by (slice_get core.repairers i) refl low
+          let e : (x : Ended) × (slice_get c.ended call.number ≡ Some x) = inside c.ended call.number low in
+          let work : (w : Work) × (slice_get (client_work script) call.client ≡ Some w) = client_has script core known call.client c is in
+          let most : length c.ended ≤ length work.0.jobs = (known.calls.clients call.client c is work.0 work.1).below in
+          let job : (j : Job) × (slice_get work.0.jobs call.number ≡ Some j) = inside work.0.jobs call.number (omega (arith, most, low)) in
+          (job.0, ap (option_and_then (λ (w : Work). slice_get w.jobs call.number)) work.1 ∙ job.1, (e.0.outcome, ((has.clients call.client c is work.0 work.1).ended call.number job.0 e.0 job.1 e.1).1))
+  below_over (name.Repairer call) low = by (slice_get core.repairers call.repairer) refl low
     where
-      by : (found : Option Calling) → slice_get core.repairers i ≡ found → number < ended_of found → IsOver script trace (name.Repairer i number)
+      by : (found : Option Calling) → slice_get core.repairers call.repairer ≡ found → call.number < ended_of found → IsOver script trace (name.Repairer call)
       by None is low = absurd (omega (arith, low))
       by (Some c) is low =
-          let e : (x : Ended) × (slice_get c.ended number ≡ Some x) = inside c.ended number low in
-          let work : (w : Work) × (slice_get (repairer_work script) i ≡ Some w) = repairer_has script core known i c is in
-          let most : length c.ended ≤ length work.0.jobs = (known.calls.repairers i c is work.0 work.1).below in
-          let job : (j : Job) × (slice_get work.0.jobs number ≡ Some j) = inside work.0.jobs number (omega (arith, most, low)) in
-          (job.0, ap (option_and_then (λ (w : Work). slice_get w.jobs number)) work.1 ∙ job.1, (e.0.outcome, ((has.repairers i c is work.0 work.1).ended number job.0 e.0 job.1 e.1).1))
+          let e : (x : Ended) × (slice_get c.ended call.number ≡ Some x) = inside c.ended call.number low in
+          let work : (w : Work) × (slice_get (repairer_work script) call.repairer ≡ Some w) = repairer_has script core known call.repairer c is in
+          let most : length c.ended ≤ length work.0.jobs = (known.calls.repairers call.repairer c is work.0 work.1).below in
+          let job : (j : Job) × (slice_get work.0.jobs call.number ≡ Some j) = inside work.0.jobs call.number (omega (arith, most, low)) in
+          (job.0, ap (option_and_then (λ (w : Work). slice_get w.jobs call.number)) work.1 ∙ job.1, (e.0.outcome, ((has.repairers call.repairer c is work.0 work.1).ended call.number job.0 e.0 job.1 e.1).1))
 
 -- ---- by lines
 -- a reply that is shown
@@ -232,57 +234,67 @@ reply_shown : (says : Shown) → is_reply says ≡ true → (reply : Reply) × (
 reply_shown (shown_as.Reply reply) e = (reply, refl)
 reply_shown shown_as.Unfinished e = absurd (true≢false (sym e))
 
+-- the call of a name, and another where that is of the other kind
+abbrev client_or : ClientCall → CallName → ClientCall
+client_or other (name.Client call) = call
+client_or other (name.Repairer call) = other
+
+abbrev repair_or : RepairCall → CallName → RepairCall
+repair_or other (name.Client call) = other
+repair_or other (name.Repairer call) = call
+
 module _ (script : Script) (core : Core) (known : EndKnown script core) where
   abbrev t : Transcript
   t = shown script core
 
   abbrev replied_calls : List CallName
-  replied_calls = map (λ (line : HLine). line.call) (filter (λ (line : HLine). is_reply line.reply) t.history)
+  replied_calls = map (λ (line : HLine). name.Client line.call) (filter (λ (line : HLine). is_reply line.reply) t.history)
 
   abbrev refused_calls : List CallName
-  refused_calls = map (λ (line : XLine). line.call) t.refused
+  refused_calls = map (λ (line : XLine). name.Client line.call) t.refused
 
   abbrev repair_calls : List CallName
-  repair_calls = map (λ (line : RLine). line.call) t.repairs
+  repair_calls = map (λ (line : RLine). name.Repairer line.call) t.repairs
 
-  replied : (call : CallName) → Contains replied_calls call → IsAnswered t call
+  replied : (call : ClientCall) → Contains replied_calls (name.Client call) → IsAnswered t call
   replied call has =
-      let of : (line : HLine) × Contains (filter (λ (line : HLine). is_reply line.reply) t.history) line × (line.call ≡ call) = of_mapped (λ (line : HLine). line.call) (filter (λ (line : HLine). is_reply line.reply) t.history) call has in
+      let of : (line : HLine) × Contains (filter (λ (line : HLine). is_reply line.reply) t.history) line × (name.Client line.call ≡ name.Client call) =
+      of_mapped (λ (line : HLine). name.Client line.call) (filter (λ (line : HLine). is_reply line.reply) t.history) (name.Client call) has in
       let there : Contains t.history of.0 × (is_reply of.0.reply ≡ true) = in_filter (λ (line : HLine). is_reply line.reply) t.history of.0 of.1 in
       let says : (reply : Reply) × (of.0.reply ≡ shown_as.Reply reply) = reply_shown of.0.reply there.1 in
-      (of.0.point, says.0, subst (Contains t.history) (λ k. record { point = of.0.point; call = of.2 k; reply = says.1 k }) there.0)
+      (of.0.point, says.0, subst (Contains t.history) (λ k. record { point = of.0.point; call = client_or call (of.2 k); reply = says.1 k }) there.0)
 
-  refused : (call : CallName) → Contains refused_calls call → WasRefused t call
+  refused : (call : ClientCall) → Contains refused_calls (name.Client call) → WasRefused t call
   refused call has =
-      let of : (line : XLine) × Contains t.refused line × (line.call ≡ call) = of_mapped (λ (line : XLine). line.call) t.refused call has in
-      (of.0.cause, subst (Contains t.refused) (λ k. record { call = of.2 k; cause = of.0.cause }) of.1)
+      let of : (line : XLine) × Contains t.refused line × (name.Client line.call ≡ name.Client call) = of_mapped (λ (line : XLine). name.Client line.call) t.refused (name.Client call) has in
+      (of.0.cause, subst (Contains t.refused) (λ k. record { call = client_or call (of.2 k); cause = of.0.cause }) of.1)
 
-  resulted : (call : CallName) → Contains repair_calls call → HasResult (λ what. ⊤) t call
+  resulted : (call : RepairCall) → Contains repair_calls (name.Repairer call) → HasResult (λ what. ⊤) t call
   resulted call has =
-      let of : (line : RLine) × Contains t.repairs line × (line.call ≡ call) = of_mapped (λ (line : RLine). line.call) t.repairs call has in
-      (of.0.result, tt, subst (Contains t.repairs) (λ k. record { call = of.2 k; result = of.0.result }) of.1)
+      let of : (line : RLine) × Contains t.repairs line × (name.Repairer line.call ≡ name.Repairer call) = of_mapped (λ (line : RLine). name.Repairer line.call) t.repairs (name.Repairer call) has in
+      (of.0.result, tt, subst (Contains t.repairs) (λ k. record { call = repair_or call (of.2 k); result = of.0.result }) of.1)
 
-  client_told : (i number : ℕ) → number < ended_count core (name.Client i number) → IsAnswered t (name.Client i number) ⊎ WasRefused t (name.Client i number)
-  client_told i number low = by (Contains-append_cases (replied_calls ++ refused_calls) repair_calls (name.Client i number) (ended_answered script core known (name.Client i number) low))
+  client_told : (call : ClientCall) → call.number < ended_count core (name.Client call) → IsAnswered t call ⊎ WasRefused t call
+  client_told call low = by (Contains-append_cases (replied_calls ++ refused_calls) repair_calls (name.Client call) (ended_answered script core known (name.Client call) low))
     where
-      first : Contains replied_calls (name.Client i number) ⊎ Contains refused_calls (name.Client i number) → IsAnswered t (name.Client i number) ⊎ WasRefused t (name.Client i number)
-      first (inl has) = inl (replied (name.Client i number) has)
-      first (inr has) = inr (refused (name.Client i number) has)
+      first : Contains replied_calls (name.Client call) ⊎ Contains refused_calls (name.Client call) → IsAnswered t call ⊎ WasRefused t call
+      first (inl has) = inl (replied call has)
+      first (inr has) = inr (refused call has)
 
-      by : Contains (replied_calls ++ refused_calls) (name.Client i number) ⊎ Contains repair_calls (name.Client i number) → IsAnswered t (name.Client i number) ⊎ WasRefused t (name.Client i number)
-      by (inl has) = first (Contains-append_cases replied_calls refused_calls (name.Client i number) has)
-      by (inr has) = absurd (true≢false (All-contains (IsResult script core known) repair_calls (name.Client i number) (all_results script core known) has).0)
+      by : Contains (replied_calls ++ refused_calls) (name.Client call) ⊎ Contains repair_calls (name.Client call) → IsAnswered t call ⊎ WasRefused t call
+      by (inl has) = first (Contains-append_cases replied_calls refused_calls (name.Client call) has)
+      by (inr has) = absurd (true≢false (All-contains (IsResult script core known) repair_calls (name.Client call) (all_results script core known) has).0)
 
-  repairer_told : (i number : ℕ) → number < ended_count core (name.Repairer i number) → HasResult (λ what. ⊤) t (name.Repairer i number)
-  repairer_told i number low = by (Contains-append_cases (replied_calls ++ refused_calls) repair_calls (name.Repairer i number) (ended_answered script core known (name.Repairer i number) low))
+  repairer_told : (call : RepairCall) → call.number < ended_count core (name.Repairer call) → HasResult (λ what. ⊤) t call
+  repairer_told call low = by (Contains-append_cases (replied_calls ++ refused_calls) repair_calls (name.Repairer call) (ended_answered script core known (name.Repairer call) low))
     where
-      first : Contains replied_calls (name.Repairer i number) ⊎ Contains refused_calls (name.Repairer i number) → HasResult (λ what. ⊤) t (name.Repairer i number)
-      first (inl has) = absurd (true≢false (sym (All-contains (λ call. answered_at core call ≡ true) replied_calls (name.Repairer i number) (all_replied script core known) has)))
-      first (inr has) = absurd (true≢false (sym (All-contains (IsRefused script core known) refused_calls (name.Repairer i number) (all_refused script core known) has).1.0))
+      first : Contains replied_calls (name.Repairer call) ⊎ Contains refused_calls (name.Repairer call) → HasResult (λ what. ⊤) t call
+      first (inl has) = absurd (true≢false (sym (All-contains (λ call. answered_at core call ≡ true) replied_calls (name.Repairer call) (all_replied script core known) has)))
+      first (inr has) = absurd (true≢false (sym (All-contains (IsRefused script core known) refused_calls (name.Repairer call) (all_refused script core known) has).1.0))
 
-      by : Contains (replied_calls ++ refused_calls) (name.Repairer i number) ⊎ Contains repair_calls (name.Repairer i number) → HasResult (λ what. ⊤) t (name.Repairer i number)
-      by (inl has) = first (Contains-append_cases replied_calls refused_calls (name.Repairer i number) has)
-      by (inr has) = resulted (name.Repairer i number) has
+      by : Contains (replied_calls ++ refused_calls) (name.Repairer call) ⊎ Contains repair_calls (name.Repairer call) → HasResult (λ what. ⊤) t call
+      by (inl has) = first (Contains-append_cases replied_calls refused_calls (name.Repairer call) has)
+      by (inr has) = resulted call has
 
   -- a call that has a reply, a refusal or a result has ended
   told_below : (call : CallName) → Contains (answered_calls t) call → number_of call < ended_count core call
@@ -303,8 +315,8 @@ runs_tell_ends script shortages geometry valid tokens =
     let known : EndKnown script core = end_known script geometry valid shortages tokens in
     let has : CausesSoFar script trace core = all_causes script (can_run script geometry valid) shortages tokens in
     record {
-      clients = λ i number over. client_told script core known i number (over_below script core known trace has (name.Client i number) over);
-      repairers = λ i number over. repairer_told script core known i number (over_below script core known trace has (name.Repairer i number) over);
+      clients = λ call over. client_told script core known call (over_below script core known trace has (name.Client call) over);
+      repairers = λ call over. repairer_told script core known call (over_below script core known trace has (name.Repairer call) over);
       only = all_by (IsOver script trace) (answered_calls (shown script core)) (λ call h. below_over script core known trace has call (told_below script core known call h));
     }
 

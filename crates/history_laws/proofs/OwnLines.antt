@@ -1,5 +1,5 @@
 -- What a run shows of rebuilds that lacked chunks is their own.
-use Rattle.std.proofs.Common.{◌≡◌, ℕ, ◌^◌, ◌<◌, ◌≤◌, List, [], length, map, option_and_then, Option, None, Some, IfSome, All, refl, sym, ap, subst, ◌∙◌, arith}
+use Rattle.std.proofs.Common.{◌≡◌, ℕ, ◌<◌, ◌≤◌, List, [], length, map, option_and_then, Option, None, Some, IfSome, All, refl, sym, ap, subst, ◌∙◌, arith}
 use Rattle.std.proofs.lemmas.List.Elements.{All-nil, All-cons}
 use Rattle.std.proofs.lemmas.Option.{slice_get_within}
 use Rattle.std.specs.List.{slice_get}
@@ -8,7 +8,6 @@ use Rattle.store_map.specs.declared.actor.Token.{Token}
 use Rattle.store_map.specs.declared.call.Rebuild.{Rebuild}
 use Rattle.store_map.specs.declared.script.RepairPart.{RepairPart}
 use Rattle.store_map.specs.declared.script.Script.{Script}
-use Rattle.store_map.specs.declared.call_name.CallName.TheVariants as name
 use Rattle.store_map.specs.declared.cause.RepairResult.{RepairResult}
 use Rattle.store_map.specs.declared.line.RLine.{RLine}
 use Rattle.hist_rules.specs.Calls.{rebuild_of}
@@ -16,6 +15,7 @@ use Rattle.store_core.specs.Act.{Outcome}
 use Rattle.store_core.specs.Core.{Core}
 use Rattle.store_core.specs.NextAct.{Job, rebuild_job}
 use Rattle.store_core.specs.Outcomes.{result_of}
+use Rattle.store_core.specs.RowLines.{repair}
 use Rattle.store_core.specs.Schedule.{run_core}
 use Rattle.store_core.specs.Shown.{shown, repair_line, lines_of_ended}
 use Rattle.store_core.specs.Work.{Ended, Work, Calling, repairer_work}
@@ -34,7 +34,7 @@ module _ (script : Script) (core : Core) (known : EndKnown script core) (own : A
   -- a repairer's job is its rebuild
   record OfRebuild (i number : ℕ) (job : Job) : Type 0 where
     rebuild : Rebuild
-    is_rebuild : rebuild_of script (name.Repairer i number) ≡ Some rebuild
+    is_rebuild : rebuild_of script (repair i number) ≡ Some rebuild
     is_job : rebuild_job rebuild ≡ job
 
   part_work : RepairPart → Work
@@ -71,15 +71,15 @@ module _ (script : Script) (core : Core) (known : EndKnown script core) (own : A
   abbrev pub Named : RLine → Type 0
   Named line = IfSome (rebuild_of script line.call) (NamesLoss script line.result)
 
-  one_line : (i number : ℕ) (outcome : Outcome) → ((what : RepairResult) → result_of outcome ≡ Some what → IfSome (rebuild_of script (name.Repairer i number)) (NamesLoss script what))
-      → All Named (repair_line (name.Repairer i number) (result_of outcome))
+  one_line : (i number : ℕ) (outcome : Outcome) → ((what : RepairResult) → result_of outcome ≡ Some what → IfSome (rebuild_of script (repair i number)) (NamesLoss script what))
+      → All Named (repair_line (repair i number) (result_of outcome))
   one_line i number outcome h = by (result_of outcome) h
     where
-      by : (o : Option RepairResult) → ((what : RepairResult) → o ≡ Some what → IfSome (rebuild_of script (name.Repairer i number)) (NamesLoss script what)) → All Named (repair_line (name.Repairer i number) o)
+      by : (o : Option RepairResult) → ((what : RepairResult) → o ≡ Some what → IfSome (rebuild_of script (repair i number)) (NamesLoss script what)) → All Named (repair_line (repair i number) o)
       by None k = All-nil Named
-      by (Some what) k = All-cons Named (record { call = name.Repairer i number; result = what }) [] (k what refl) (All-nil Named)
+      by (Some what) k = All-cons Named (record { call = repair i number; result = what }) [] (k what refl) (All-nil Named)
 
-  own_line : (i : ℕ) (c : Calling) → slice_get core.repairers i ≡ Some c → (number : ℕ) (e : Ended) → slice_get c.ended number ≡ Some e → All Named (repair_line (name.Repairer i number) (result_of e.outcome))
+  own_line : (i : ℕ) (c : Calling) → slice_get core.repairers i ≡ Some c → (number : ℕ) (e : Ended) → slice_get c.ended number ≡ Some e → All Named (repair_line (repair i number) (result_of e.outcome))
   own_line i c is_c number e is_e =
       let work : (w : Work) × (slice_get (repairer_work script) i ≡ Some w) = repairer_has script core known i c is_c in
       let most : length c.ended ≤ length work.0.jobs = (known.calls.repairers i c is_c work.0 work.1).below in
@@ -91,8 +91,8 @@ module _ (script : Script) (core : Core) (known : EndKnown script core) (own : A
 
   pub named_losses : All Named (shown script core).repairs
   named_losses =
-      all_indexed (λ j. lines_of_ended (λ number ended. repair_line (name.Repairer j number) (result_of ended.outcome))) Named core.repairers
-      (λ i c is_c. all_indexed (λ number ended. repair_line (name.Repairer i number) (result_of ended.outcome)) Named c.ended (λ number e is_e. own_line i c is_c number e is_e))
+      all_indexed (λ j. lines_of_ended (λ number ended. repair_line (repair j number) (result_of ended.outcome))) Named core.repairers
+      (λ i c is_c. all_indexed (λ number ended. repair_line (repair i number) (result_of ended.outcome)) Named c.ended (λ number e is_e. own_line i c is_c number e is_e))
 
 pub runs_name_losses : RunsNameLosses
 runs_name_losses script shortages geometry valid =

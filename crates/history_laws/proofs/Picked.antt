@@ -8,12 +8,12 @@ use Rattle.store_map.specs.declared.actor.Actor.{Actor}
 use Rattle.store_map.specs.declared.actor.Actor.TheVariants as actor
 use Rattle.store_map.specs.declared.call_name.CallName.{CallName}
 use Rattle.store_map.specs.declared.call_name.CallName.TheVariants as name
-use Rattle.store_core.specs.History.{name_of}
 use Rattle.store_core.specs.Lookups.{same_actor}
+use Rattle.store_core.specs.Shown.{client_name, repairer_name}
 use Rattle.run_laws.proofs.Passes.{same_is}
 use Rattle.run_laws.proofs.SoundLists.{contains_at, in_filter, filtered}
 use Rattle.history_laws.specs.LineCauses.{caller_of, number_of}
-use Rattle.history_laws.specs.Moments.{Happened, IsOf}
+use Rattle.history_laws.specs.Moments.{Happened, IsOf, name_of}
 use Rattle.history_laws.specs.Trace.{Made}
 use Rattle.history_laws.specs.Facts.{is_step_of, steps_of}
 
@@ -92,8 +92,8 @@ is_of call made mine = by call (and_parts (same_actor (caller_of call) made.who)
     named who number both = λ k. name_of (sym (same_is who made.who both.0) k) (sym (eqb-true number made.number both.1) k)
 
     by : (one : CallName) → (same_actor (caller_of one) made.who ≡ true) × (nat_eq (number_of one) made.number ≡ true) → IsOf one made
-    by (name.Client i number) both = named (actor.Client i) number both
-    by (name.Repairer i number) both = named (actor.Repairer i) number both
+    by (name.Client call) both = named (actor.Client call.client) call.number both
+    by (name.Repairer call) both = named (actor.Repairer call.repairer) call.number both
 
 pub is_step : (call : CallName) (made : Made) → IsOf call made → is_step_of call made ≡ true
 is_step call made of = by made.who of
@@ -102,9 +102,9 @@ is_step call made of = by made.who of
     same one who e h = subst (λ c. (same_actor (caller_of c) who && nat_eq (number_of c) made.number) ≡ true) e h
 
     by : (who : Actor) → name_of who made.number ≡ Some call → (same_actor (caller_of call) who && nat_eq (number_of call) made.number) ≡ true
-    by (actor.Client i) e = same (name.Client i made.number) (actor.Client i) (same_Some (name.Client i made.number) call e) (and_from (nat_eq i i) (nat_eq made.number made.number) (eq-eqb i i refl) (eq-eqb made.number made.number refl))
+    by (actor.Client i) e = same (client_name i made.number) (actor.Client i) (same_Some (client_name i made.number) call e) (and_from (nat_eq i i) (nat_eq made.number made.number) (eq-eqb i i refl) (eq-eqb made.number made.number refl))
     by (actor.Repairer i) e =
-        same (name.Repairer i made.number) (actor.Repairer i) (same_Some (name.Repairer i made.number) call e) (and_from (nat_eq i i) (nat_eq made.number made.number) (eq-eqb i i refl) (eq-eqb made.number made.number refl))
+        same (repairer_name i made.number) (actor.Repairer i) (same_Some (repairer_name i made.number) call e) (and_from (nat_eq i i) (nat_eq made.number made.number) (eq-eqb i i refl) (eq-eqb made.number made.number refl))
     by actor.Sweeper e = absurd (none-some call e)
     by actor.Operator e = absurd (none-some call e)
 

@@ -6,6 +6,7 @@ use Rattle.clay_grid.specs.Limits.{IsGeometry}
 use Rattle.store_map.specs.Naming.{IsValid}
 use Rattle.store_map.specs.declared.actor.Token.{Token}
 use Rattle.store_map.specs.declared.script.Script.{Script}
+use Rattle.store_map.specs.declared.call_name.ClientCall.{ClientCall}
 use Rattle.store_map.specs.declared.call_name.CallName.{CallName}
 use Rattle.store_map.specs.declared.call_name.CallName.TheVariants as name
 use Rattle.store_map.specs.declared.transcript.Transcript.{Transcript}
@@ -21,7 +22,6 @@ use Rattle.run_laws.specs.StepLaws.{HasTarget}
 use Rattle.run_laws.proofs.Runs.{CanRun}
 use Rattle.run_laws.proofs.Scripts.{can_run}
 use Rattle.history_laws.proofs.Finishing.{runs_finish}
-use Rattle.history_laws.proofs.OrderRuns.{end_known}
 use Rattle.history_laws.specs.LineCauses.{job_of_call, LinesAreCaused}
 use Rattle.history_laws.specs.LossesInTime.{HasLossesInTime}
 use Rattle.history_laws.specs.Steps.{run_trace}
@@ -36,25 +36,24 @@ use Rattle.history_laws.specs.Unhindered.{SkipsChunk, AtMost}
 use Rattle.history_laws.specs.PlayedLaws.{RunsAnswer, RunsArePlayed}
 use Rattle.history_laws.proofs.Ample.{ample_runs_are_one}
 use Rattle.history_laws.proofs.Overs.{job_there, runs_tell_ends, enough_steps_end_calls}
-use Rattle.history_laws.proofs.ClientLines.{clients_only}
 use Rattle.history_laws.proofs.Acts.{runs_step_next}
 use Rattle.history_laws.proofs.TakesOfRuns.{runs_take_least}
 use Rattle.history_laws.proofs.TargetsAway.{target_told}
 use Rattle.history_laws.proofs.NeverPrepares.{never_skips}
 use Rattle.history_laws.proofs.Refusals.{not_refused, is_done}
 
-answered : (t : Transcript) (call : CallName) → (IsRefused t call → ⊥) → IsAnswered t call ⊎ IsRefused t call → IsAnswered t call × (IsRefused t call → ⊥)
+answered : (t : Transcript) (call : ClientCall) → (IsRefused t call → ⊥) → IsAnswered t call ⊎ IsRefused t call → IsAnswered t call × (IsRefused t call → ⊥)
 answered t call never (inl has) = (has, never)
 answered t call never (inr refused) = absurd (never refused)
 
 -- a rebuild of the script has a target that there is
 targets : (script : Script) → CanRun script → (call : CallName) (job : Job) → job_of_call script call ≡ Some job → HasTarget script.geometry job
-targets script can (name.Client i number) job is =
-    let there : (work : Work) × (slice_get (client_work script) i ≡ Some work) × (slice_get work.jobs number ≡ Some job) = job_there (client_work script) i number job is in
-    can.clients.targets i there.0 there.1 number job there.2
-targets script can (name.Repairer i number) job is =
-    let there : (work : Work) × (slice_get (repairer_work script) i ≡ Some work) × (slice_get work.jobs number ≡ Some job) = job_there (repairer_work script) i number job is in
-    can.repairers.targets i there.0 there.1 number job there.2
+targets script can (name.Client call) job is =
+    let there : (work : Work) × (slice_get (client_work script) call.client ≡ Some work) × (slice_get work.jobs call.number ≡ Some job) = job_there (client_work script) call.client call.number job is in
+    can.clients.targets call.client there.0 there.1 call.number job there.2
+targets script can (name.Repairer call) job is =
+    let there : (work : Work) × (slice_get (repairer_work script) call.repairer ≡ Some work) × (slice_get work.jobs call.number ≡ Some job) = job_there (repairer_work script) call.repairer call.number job is in
+    can.repairers.targets call.repairer there.0 there.1 call.number job there.2
 
 -- what holds of no server holds of few
 none_at_all : (most : ℕ) (Is : ℕ → Type 0) → ((server : ℕ) → Is server → ⊥) → AtMost most Is
@@ -69,12 +68,12 @@ runs_answer script shortages geometry valid tokens =
     let losses : HasLossesInTime trace t = runs_have_losses_in_time script shortages geometry valid tokens in
     let causes : LinesAreCaused script trace t = runs_show_causes script shortages geometry valid tokens in
     record {
-      clients = λ i number over free tries.
-          answered t (name.Client i number) (not_refused script trace t (targets script (can_run script geometry valid)) losses causes (name.Client i number) free tries) (ends.clients i number over);
-      repairers = λ i number over free place.
-          is_done script trace t (targets script (can_run script geometry valid)) losses causes (name.Repairer i number) free place
-          (target_told script trace (runs_step_next script shortages geometry valid tokens) i number)
-          (λ job is version. none_at_all script.geometry.parity_count (SkipsChunk trace (name.Repairer i number) version) (never_skips script trace (runs_step_next script shortages geometry valid tokens) i number job is (targets script (can_run script geometry valid) (name.Repairer i number) job is) version)) (ends.repairers i number over);
+      clients = λ call over free tries.
+          answered t call (not_refused script trace t (targets script (can_run script geometry valid)) losses causes call free tries) (ends.clients call over);
+      repairers = λ call over free place.
+          is_done script trace t (targets script (can_run script geometry valid)) losses causes call free place
+          (target_told script trace (runs_step_next script shortages geometry valid tokens) call)
+          (λ job is version. none_at_all script.geometry.parity_count (SkipsChunk trace (name.Repairer call) version) (never_skips script trace (runs_step_next script shortages geometry valid tokens) call job is (targets script (can_run script geometry valid) (name.Repairer call) job is) version)) (ends.repairers call over);
     }
 
 -- what a run by any tokens shows is faithful to its steps, where it is a history
@@ -83,7 +82,6 @@ pub runs_are_faithful : (script : Script) (shortages : List Shortage) → IsGeom
 runs_are_faithful script shortages geometry valid tokens history =
     record {
       history = history;
-      clients = clients_only script (run_core script shortages tokens) (end_known script geometry valid shortages tokens);
       legal = (legal_is_history script (shown script (run_core script shortages tokens))).1 history;
       points = runs_have_points_in_time script shortages geometry valid tokens;
       losses = runs_have_losses_in_time script shortages geometry valid tokens;

@@ -5,15 +5,17 @@ use Rattle.std.specs.List.{slice_get}
 use Rattle.store_map.specs.declared.actor.Actor.{Actor}
 use Rattle.store_map.specs.declared.actor.Actor.TheVariants as actor
 use Rattle.store_map.specs.declared.script.Script.{Script}
+use Rattle.store_map.specs.declared.call_name.ClientCall.{ClientCall}
+use Rattle.store_map.specs.declared.call_name.RepairCall.{RepairCall}
 use Rattle.store_map.specs.declared.call_name.CallName.{CallName}
 use Rattle.store_map.specs.declared.call_name.CallName.TheVariants as name
 use Rattle.store_map.specs.declared.line.XLine.{XLine}
 use Rattle.store_map.specs.declared.line.RLine.{RLine}
 use Rattle.store_core.specs.Act.{Outcome}
 use Rattle.store_core.specs.Core.{Core}
-use Rattle.store_core.specs.History.{name_of}
 use Rattle.store_core.specs.Outcomes.{cause_of, result_of}
 use Rattle.store_core.specs.PlaceLaws.{new_point}
+use Rattle.store_core.specs.RowLines.{client, repair}
 use Rattle.store_core.specs.Schedule.{run_core}
 use Rattle.store_core.specs.Shown.{shown, refused_line, repair_line, lines_of_ended}
 use Rattle.store_core.specs.Work.{Work, client_work, repairer_work}
@@ -22,7 +24,7 @@ use Rattle.history_laws.proofs.OrderEnds.{EndKnown, client_has, repairer_has}
 use Rattle.history_laws.proofs.OrderLists.{all_indexed}
 use Rattle.history_laws.proofs.OrderRuns.{end_known}
 use Rattle.history_laws.specs.Trace.{Made}
-use Rattle.history_laws.specs.Moments.{Happened, IsOf}
+use Rattle.history_laws.specs.Moments.{Happened, name_of, IsOf}
 use Rattle.history_laws.specs.PointsInTime.{ComesWithin, AnyStep, ReapsIts, NamesPoints, ResultNamesPoints, HasPointsInTime}
 use Rattle.history_laws.specs.InTimeLaws.{RunsHavePointsInTime}
 use Rattle.history_laws.specs.Steps.{run_trace}
@@ -57,29 +59,31 @@ module _ (trace : List Made) (who : Actor) (number : ℕ) (call : CallName) (nam
       All-cons (λ (p : ℕ × ℕ). ComesWithin trace call AnyStep p.1) pair pairs (comes AnyStep AnyStep (λ made k. k) pair.1 (All-head (LostOwn trace who number) pair pairs h))
       (pairs_come pairs (All-tail (LostOwn trace who number) pair pairs h))
 
+-- ---- one line
+module _ (trace : List Made) where
   abbrev Q : XLine → Type 0
-  Q line = NamesPoints trace line.call line.cause
+  Q line = NamesPoints trace (name.Client line.call) line.cause
 
-  refused_one : (outcome : Outcome) → EndedThen trace who number outcome → All Q (refused_line call (cause_of outcome))
-  refused_one (Outcome.Contended pairs) h = All-cons Q _ [] (pairs_come pairs h) (All-nil Q)
-  refused_one (Outcome.Reaped point) h = All-cons Q _ [] (comes (ReapOf who) (ReapsIts call) reaps_its point h) (All-nil Q)
-  refused_one (Outcome.Unavailable stripe missing) h = All-cons Q _ [] tt (All-nil Q)
-  refused_one Outcome.NoMemory h = All-cons Q _ [] tt (All-nil Q)
-  refused_one outcome h = All-nil Q
+  refused_one : (call : ClientCall) (outcome : Outcome) → EndedThen trace (actor.Client call.client) call.number outcome → All Q (refused_line call (cause_of outcome))
+  refused_one call (Outcome.Contended pairs) h = All-cons Q _ [] (pairs_come trace (actor.Client call.client) call.number (name.Client call) refl pairs h) (All-nil Q)
+  refused_one call (Outcome.Reaped point) h = All-cons Q _ [] (comes trace (actor.Client call.client) call.number (name.Client call) refl (ReapOf (actor.Client call.client)) (ReapsIts (name.Client call)) (reaps_its trace (actor.Client call.client) call.number (name.Client call) refl) point h) (All-nil Q)
+  refused_one call (Outcome.Unavailable stripe missing) h = All-cons Q _ [] tt (All-nil Q)
+  refused_one call Outcome.NoMemory h = All-cons Q _ [] tt (All-nil Q)
+  refused_one call outcome h = All-nil Q
 
   abbrev R : RLine → Type 0
-  R line = ResultNamesPoints trace line.call line.result
+  R line = ResultNamesPoints trace (name.Repairer line.call) line.result
 
-  repair_one : (outcome : Outcome) → EndedThen trace who number outcome → All R (repair_line call (result_of outcome))
-  repair_one (Outcome.Superseded newer) h = All-cons R _ [] (comes AnyStep AnyStep (λ made k. k) newer h) (All-nil R)
-  repair_one (Outcome.Reaped point) h = All-cons R _ [] (comes (ReapOf who) (ReapsIts call) reaps_its point h) (All-nil R)
-  repair_one (Outcome.Unavailable stripe missing) h = All-cons R _ [] tt (All-nil R)
-  repair_one (Outcome.Away downs) h = All-cons R _ [] tt (All-nil R)
-  repair_one Outcome.Rebuilt h = All-cons R _ [] tt (All-nil R)
-  repair_one Outcome.Here h = All-cons R _ [] tt (All-nil R)
-  repair_one Outcome.NoSuch h = All-cons R _ [] tt (All-nil R)
-  repair_one Outcome.NoMemory h = All-cons R _ [] tt (All-nil R)
-  repair_one outcome h = All-nil R
+  repair_one : (call : RepairCall) (outcome : Outcome) → EndedThen trace (actor.Repairer call.repairer) call.number outcome → All R (repair_line call (result_of outcome))
+  repair_one call (Outcome.Superseded newer) h = All-cons R _ [] (comes trace (actor.Repairer call.repairer) call.number (name.Repairer call) refl AnyStep AnyStep (λ made k. k) newer h) (All-nil R)
+  repair_one call (Outcome.Reaped point) h = All-cons R _ [] (comes trace (actor.Repairer call.repairer) call.number (name.Repairer call) refl (ReapOf (actor.Repairer call.repairer)) (ReapsIts (name.Repairer call)) (reaps_its trace (actor.Repairer call.repairer) call.number (name.Repairer call) refl) point h) (All-nil R)
+  repair_one call (Outcome.Unavailable stripe missing) h = All-cons R _ [] tt (All-nil R)
+  repair_one call (Outcome.Away downs) h = All-cons R _ [] tt (All-nil R)
+  repair_one call Outcome.Rebuilt h = All-cons R _ [] tt (All-nil R)
+  repair_one call Outcome.Here h = All-cons R _ [] tt (All-nil R)
+  repair_one call Outcome.NoSuch h = All-cons R _ [] tt (All-nil R)
+  repair_one call Outcome.NoMemory h = All-cons R _ [] tt (All-nil R)
+  repair_one call outcome h = All-nil R
 
 -- ---- all lines
 module _ (script : Script) (trace : List Made) (core : Core) (known : EndKnown script core) (has : PointsSoFar script trace core) where
@@ -88,19 +92,19 @@ module _ (script : Script) (trace : List Made) (core : Core) (known : EndKnown s
       record {
         order = keeps_time script trace core has.points;
         refused =
-            all_indexed (λ j. lines_of_ended (λ number ended. refused_line (name.Client j number) (cause_of ended.outcome))) (λ (line : XLine). NamesPoints trace line.call line.cause) core.clients
+            all_indexed (λ j. lines_of_ended (λ number ended. refused_line (client j number) (cause_of ended.outcome))) (λ (line : XLine). NamesPoints trace (name.Client line.call) line.cause) core.clients
             (λ i c is_c.
-            all_indexed (λ number ended. refused_line (name.Client i number) (cause_of ended.outcome)) (λ (line : XLine). NamesPoints trace line.call line.cause) c.ended
+            all_indexed (λ number ended. refused_line (client i number) (cause_of ended.outcome)) (λ (line : XLine). NamesPoints trace (name.Client line.call) line.cause) c.ended
             (λ number e is_e.
             let work : (w : Work) × (slice_get (client_work script) i ≡ Some w) = client_has script core known i c is_c in
-            refused_one trace (actor.Client i) number (name.Client i number) refl e.outcome ((has.clients i c is_c work.0 work.1).ended number e is_e)));
+            refused_one trace (client i number) e.outcome ((has.clients i c is_c work.0 work.1).ended number e is_e)));
         repairs =
-            all_indexed (λ j. lines_of_ended (λ number ended. repair_line (name.Repairer j number) (result_of ended.outcome))) (λ (line : RLine). ResultNamesPoints trace line.call line.result) core.repairers
+            all_indexed (λ j. lines_of_ended (λ number ended. repair_line (repair j number) (result_of ended.outcome))) (λ (line : RLine). ResultNamesPoints trace (name.Repairer line.call) line.result) core.repairers
             (λ i c is_c.
-            all_indexed (λ number ended. repair_line (name.Repairer i number) (result_of ended.outcome)) (λ (line : RLine). ResultNamesPoints trace line.call line.result) c.ended
+            all_indexed (λ number ended. repair_line (repair i number) (result_of ended.outcome)) (λ (line : RLine). ResultNamesPoints trace (name.Repairer line.call) line.result) c.ended
             (λ number e is_e.
             let work : (w : Work) × (slice_get (repairer_work script) i ≡ Some w) = repairer_has script core known i c is_c in
-            repair_one trace (actor.Repairer i) number (name.Repairer i number) refl e.outcome ((has.repairers i c is_c work.0 work.1).ended number e is_e)));
+            repair_one trace (repair i number) e.outcome ((has.repairers i c is_c work.0 work.1).ended number e is_e)));
       }
 
 pub runs_have_points_in_time : RunsHavePointsInTime

@@ -10,7 +10,6 @@ use Rattle.store_map.specs.declared.call.Call.TheVariants as call
 use Rattle.store_map.specs.declared.call.Rebuild.{Rebuild}
 use Rattle.store_map.specs.declared.script.RepairPart.{RepairPart}
 use Rattle.store_map.specs.declared.script.Script.{Script}
-use Rattle.store_map.specs.declared.call_name.CallName.TheVariants as name
 use Rattle.store_map.specs.declared.cause.RepairResult.{RepairResult}
 use Rattle.store_map.specs.declared.cause.RepairResult.TheVariants as result
 use Rattle.store_map.specs.declared.line.XLine.{XLine}
@@ -26,6 +25,7 @@ use Rattle.store_core.specs.Core.{Core}
 use Rattle.store_core.specs.NextAct.{Job, rebuild_job}
 use Rattle.store_core.specs.Note.{Kind, note_of}
 use Rattle.store_core.specs.Outcomes.{triple_of, cause_of, result_of}
+use Rattle.store_core.specs.RowLines.{client, repair}
 use Rattle.store_core.specs.Schedule.{run_core}
 use Rattle.store_core.specs.Shown.{shown, refused_line, repair_line, lines_of_ended}
 use Rattle.store_core.specs.Tell.{tell}
@@ -76,7 +76,7 @@ module _ (script : Script) (tokens : List Token) (core : Core) (known : EndKnown
   loser (call.Delete object) pairs writes count lost = absurd (true≢false (sym (ap is_write writes)))
 
   contended : (i : ℕ) (c : Calling) → slice_get core.clients i ≡ Some c → (number : ℕ) (e : Ended) → slice_get c.ended number ≡ Some e → (pairs : List (ℕ × ℕ)) → e.outcome ≡ Outcome.Contended pairs
-      → IsLoser (scheduled script tokens) t pairs (option_and_then written_name (script_call script (name.Client i number)))
+      → IsLoser (scheduled script tokens) t pairs (option_and_then written_name (script_call script (client i number)))
   contended i c is_c number e is_e pairs lost =
       let work : (w : Work) × (slice_get (client_work script) i ≡ Some w) = client_has script core known i c is_c in
       let most : length c.ended ≤ length work.0.jobs = (known.calls.clients i c is_c work.0 work.1).below in
@@ -94,8 +94,8 @@ module _ (script : Script) (tokens : List Token) (core : Core) (known : EndKnown
   abbrev Q : XLine → Type 0
   Q line = LostRace (scheduled script tokens) t line.call line.cause
 
-  one_line : (i number : ℕ) (outcome : Outcome) → ((pairs : List (ℕ × ℕ)) → outcome ≡ Outcome.Contended pairs → IsLoser (scheduled script tokens) t pairs (option_and_then written_name (script_call script (name.Client i number))))
-      → All Q (refused_line (name.Client i number) (cause_of outcome))
+  one_line : (i number : ℕ) (outcome : Outcome) → ((pairs : List (ℕ × ℕ)) → outcome ≡ Outcome.Contended pairs → IsLoser (scheduled script tokens) t pairs (option_and_then written_name (script_call script (client i number))))
+      → All Q (refused_line (client i number) (cause_of outcome))
   one_line i number (Outcome.Contended pairs) h = All-cons Q _ [] (h pairs refl) (All-nil Q)
   one_line i number (Outcome.Unavailable stripe missing) h = All-cons Q _ [] tt (All-nil Q)
   one_line i number (Outcome.Reaped point) h = All-cons Q _ [] tt (All-nil Q)
@@ -104,9 +104,9 @@ module _ (script : Script) (tokens : List Token) (core : Core) (known : EndKnown
 
   pub lost_races : All Q t.refused
   lost_races =
-      all_indexed (λ j. lines_of_ended (λ number ended. refused_line (name.Client j number) (cause_of ended.outcome))) Q core.clients
+      all_indexed (λ j. lines_of_ended (λ number ended. refused_line (client j number) (cause_of ended.outcome))) Q core.clients
       (λ i c is_c.
-      all_indexed (λ number ended. refused_line (name.Client i number) (cause_of ended.outcome)) Q c.ended
+      all_indexed (λ number ended. refused_line (client i number) (cause_of ended.outcome)) Q c.ended
       (λ number e is_e. one_line i number e.outcome (λ pairs lost. contended i c is_c number e is_e pairs lost)))
 
 -- ---- rebuilds
@@ -114,7 +114,7 @@ module _ (script : Script) (tokens : List Token) (core : Core) (known : EndKnown
   -- a repairer's job is its rebuild
   record OfRebuild (i number : ℕ) (job : Job) : Type 0 where
     rebuild : Rebuild
-    is_rebuild : rebuild_of script (name.Repairer i number) ≡ Some rebuild
+    is_rebuild : rebuild_of script (repair i number) ≡ Some rebuild
     is_job : rebuild_job rebuild ≡ job
 
   part_work : RepairPart → Work
@@ -133,7 +133,7 @@ module _ (script : Script) (tokens : List Token) (core : Core) (known : EndKnown
       }
 
   superseded : (i : ℕ) (c : Calling) → slice_get core.repairers i ≡ Some c → (number : ℕ) (e : Ended) → slice_get c.ended number ≡ Some e → (newer : ℕ) → e.outcome ≡ Outcome.Superseded newer
-      → IfSome (rebuild_of script (name.Repairer i number)) (NamesChange (scheduled script tokens) (shown script core) (result.Superseded newer))
+      → IfSome (rebuild_of script (repair i number)) (NamesChange (scheduled script tokens) (shown script core) (result.Superseded newer))
   superseded i c is_c number e is_e newer is =
       let work : (w : Work) × (slice_get (repairer_work script) i ≡ Some w) = repairer_has script core known i c is_c in
       let most : length c.ended ≤ length work.0.jobs = (known.calls.repairers i c is_c work.0 work.1).below in
@@ -151,26 +151,26 @@ module _ (script : Script) (tokens : List Token) (core : Core) (known : EndKnown
   nothing_named None what h = tt
   nothing_named (Some rebuild) what h = h rebuild
 
-  one_result : (i number : ℕ) (outcome : Outcome) → ((newer : ℕ) → outcome ≡ Outcome.Superseded newer → IfSome (rebuild_of script (name.Repairer i number)) (NamesChange (scheduled script tokens) (shown script core) (result.Superseded newer)))
-      → All Named (repair_line (name.Repairer i number) (result_of outcome))
-  one_result i number (Outcome.Superseded newer) h = All-cons Named (record { call = name.Repairer i number; result = result.Superseded newer }) [] (h newer refl) (All-nil Named)
-  one_result i number Outcome.Rebuilt h = All-cons Named (record { call = name.Repairer i number; result = result.Rebuilt }) [] (nothing_named (rebuild_of script (name.Repairer i number)) result.Rebuilt (λ _. tt)) (All-nil Named)
-  one_result i number Outcome.Here h = All-cons Named (record { call = name.Repairer i number; result = result.Here }) [] (nothing_named (rebuild_of script (name.Repairer i number)) result.Here (λ _. tt)) (All-nil Named)
-  one_result i number Outcome.NoSuch h = All-cons Named (record { call = name.Repairer i number; result = result.NoSuch }) [] (nothing_named (rebuild_of script (name.Repairer i number)) result.NoSuch (λ _. tt)) (All-nil Named)
-  one_result i number (Outcome.Away downs) h = All-cons Named (record { call = name.Repairer i number; result = result.Away downs }) [] (nothing_named (rebuild_of script (name.Repairer i number)) (result.Away downs) (λ _. tt)) (All-nil Named)
+  one_result : (i number : ℕ) (outcome : Outcome) → ((newer : ℕ) → outcome ≡ Outcome.Superseded newer → IfSome (rebuild_of script (repair i number)) (NamesChange (scheduled script tokens) (shown script core) (result.Superseded newer)))
+      → All Named (repair_line (repair i number) (result_of outcome))
+  one_result i number (Outcome.Superseded newer) h = All-cons Named (record { call = repair i number; result = result.Superseded newer }) [] (h newer refl) (All-nil Named)
+  one_result i number Outcome.Rebuilt h = All-cons Named (record { call = repair i number; result = result.Rebuilt }) [] (nothing_named (rebuild_of script (repair i number)) result.Rebuilt (λ _. tt)) (All-nil Named)
+  one_result i number Outcome.Here h = All-cons Named (record { call = repair i number; result = result.Here }) [] (nothing_named (rebuild_of script (repair i number)) result.Here (λ _. tt)) (All-nil Named)
+  one_result i number Outcome.NoSuch h = All-cons Named (record { call = repair i number; result = result.NoSuch }) [] (nothing_named (rebuild_of script (repair i number)) result.NoSuch (λ _. tt)) (All-nil Named)
+  one_result i number (Outcome.Away downs) h = All-cons Named (record { call = repair i number; result = result.Away downs }) [] (nothing_named (rebuild_of script (repair i number)) (result.Away downs) (λ _. tt)) (All-nil Named)
   one_result i number (Outcome.Unavailable stripe missing) h =
-      All-cons Named (record { call = name.Repairer i number; result = result.Unavailable stripe (map triple_of missing) }) [] (nothing_named (rebuild_of script (name.Repairer i number)) (result.Unavailable stripe (map triple_of missing)) (λ _. tt)) (All-nil Named)
-  one_result i number (Outcome.Reaped point) h = All-cons Named (record { call = name.Repairer i number; result = result.Reaped point }) [] (nothing_named (rebuild_of script (name.Repairer i number)) (result.Reaped point) (λ _. tt)) (All-nil Named)
-  one_result i number Outcome.NoMemory h = All-cons Named (record { call = name.Repairer i number; result = result.NoMemory }) [] (nothing_named (rebuild_of script (name.Repairer i number)) result.NoMemory (λ _. tt)) (All-nil Named)
+      All-cons Named (record { call = repair i number; result = result.Unavailable stripe (map triple_of missing) }) [] (nothing_named (rebuild_of script (repair i number)) (result.Unavailable stripe (map triple_of missing)) (λ _. tt)) (All-nil Named)
+  one_result i number (Outcome.Reaped point) h = All-cons Named (record { call = repair i number; result = result.Reaped point }) [] (nothing_named (rebuild_of script (repair i number)) (result.Reaped point) (λ _. tt)) (All-nil Named)
+  one_result i number Outcome.NoMemory h = All-cons Named (record { call = repair i number; result = result.NoMemory }) [] (nothing_named (rebuild_of script (repair i number)) result.NoMemory (λ _. tt)) (All-nil Named)
   one_result i number (Outcome.Answered point given) h = All-nil Named
   one_result i number (Outcome.Served point) h = All-nil Named
   one_result i number (Outcome.Contended pairs) h = All-nil Named
 
   pub named_changes : All Named (shown script core).repairs
   named_changes =
-      all_indexed (λ j. lines_of_ended (λ number ended. repair_line (name.Repairer j number) (result_of ended.outcome))) Named core.repairers
+      all_indexed (λ j. lines_of_ended (λ number ended. repair_line (repair j number) (result_of ended.outcome))) Named core.repairers
       (λ i c is_c.
-      all_indexed (λ number ended. repair_line (name.Repairer i number) (result_of ended.outcome)) Named c.ended
+      all_indexed (λ number ended. repair_line (repair i number) (result_of ended.outcome)) Named c.ended
       (λ number e is_e. one_result i number e.outcome (λ newer is. superseded i c is_c number e is_e newer is)))
 
 pub runs_lose_races : RunsLoseRaces

@@ -15,7 +15,10 @@ use Rattle.store_map.specs.declared.placement.Found.TheVariants as found
 use Rattle.store_map.specs.declared.placement.Placement.{Placement}
 use Rattle.store_map.specs.declared.placement.Placement.TheVariants as placement
 use Rattle.store_map.specs.declared.script.Script.{Script}
+use Rattle.store_map.specs.declared.call_name.ClientCall.{ClientCall}
+use Rattle.store_map.specs.declared.call_name.RepairCall.{RepairCall}
 use Rattle.store_map.specs.declared.call_name.CallName.{CallName}
+use Rattle.store_map.specs.declared.call_name.CallName.TheVariants as name
 use Rattle.store_map.specs.declared.cause.Triple.{Triple}
 use Rattle.store_map.specs.declared.cause.Cause.TheVariants as cause
 use Rattle.store_map.specs.declared.cause.RepairResult.TheVariants as result
@@ -126,50 +129,52 @@ module _ (script : Script) (trace : List Made) (t : Transcript) (targets : (call
     told_of_loss prepared job is stripe missing h were =
         too_many script trace call free prepared stripe missing h.0.0 (losses_differ script.geometry job (targets call job is) h.1.looked stripe missing h.1.told h.1.lost) were
 
-    -- a client's call
-    pub not_refused : CouldWrite script trace call → IsRefused t call → ⊥
+  -- a client's call
+  module _ (call : ClientCall) (free : IsUnhindered script trace (name.Client call)) where
+    pub not_refused : CouldWrite script trace (name.Client call) → IsRefused t call → ⊥
     not_refused writes refused = by caused.outcome caused.shows caused.caused
       where
         line : XLine
         line = record { call = call; cause = refused.0 }
 
-        caused : WasCaused script trace call (λ outcome. cause_of outcome ≡ Some refused.0)
-        caused = All-contains (λ (l : XLine). WasCaused script trace l.call (λ outcome. cause_of outcome ≡ Some l.cause)) t.refused (record { call = call; cause = refused.0 }) causes.refused refused.1
+        caused : WasCaused script trace (name.Client call) (λ outcome. cause_of outcome ≡ Some refused.0)
+        caused = All-contains (λ (l : XLine). WasCaused script trace (name.Client l.call) (λ outcome. cause_of outcome ≡ Some l.cause)) t.refused (record { call = call; cause = refused.0 }) causes.refused refused.1
 
         too_few : (pairs changes : List (ℕ × ℕ)) → pairs ≡ changes → length pairs ≡ tries_of script → length changes < tries_of script → ⊥
         too_few pairs changes same all few = let n : length pairs ≡ length changes = ap length same in absurd (omega (arith, n, all, few))
 
-        by : (outcome : Outcome) → cause_of outcome ≡ Some refused.0 → HasCauseInSteps script.geometry (tries_of script) caused.job outcome (answers_to call trace) → ⊥
+        by : (outcome : Outcome) → cause_of outcome ≡ Some refused.0 → HasCauseInSteps script.geometry (tries_of script) caused.job outcome (answers_to (name.Client call) trace) → ⊥
         by (Outcome.Unavailable stripe missing) shows h =
             let there : Contains t.refused (record { call = call; cause = cause.Unavailable stripe (map triple_of missing) }) =
             subst (λ c. Contains t.refused (record { call = call; cause = c })) (sym (same_Some (cause.Unavailable stripe (map triple_of missing)) refused.0 shows)) refused.1 in
-            told_of_loss writes.prepared caused.job caused.is_call stripe missing h
-            (All-contains (λ (l : XLine). NamesLosses trace l.call l.cause) t.refused (record { call = call; cause = cause.Unavailable stripe (map triple_of missing) }) losses.refused there)
-        by (Outcome.Contended pairs) shows h = too_few pairs (changes_of (answers_to call trace)) h.0 h.1 writes.tries
-        by (Outcome.Reaped point) shows h = free.kept point (told_in (answers_to call trace) (Told.Reaped point) h)
-        by Outcome.NoMemory shows h = free.memory (told_in (answers_to call trace) Told.Short h)
+            told_of_loss (name.Client call) free writes.prepared caused.job caused.is_call stripe missing h
+            (All-contains (λ (l : XLine). NamesLosses trace (name.Client l.call) l.cause) t.refused (record { call = call; cause = cause.Unavailable stripe (map triple_of missing) }) losses.refused there)
+        by (Outcome.Contended pairs) shows h = too_few pairs (changes_of (answers_to (name.Client call) trace)) h.0 h.1 writes.tries
+        by (Outcome.Reaped point) shows h = free.kept point (told_in (answers_to (name.Client call) trace) (Told.Reaped point) h)
+        by Outcome.NoMemory shows h = free.memory (told_in (answers_to (name.Client call) trace) Told.Short h)
         by outcome shows h = none-some refused.0 shows
 
-    -- a rebuild
-    pub is_done : HasItsPlace script trace call
-        → ((job : Job) → job_of_call script call ≡ Some job → AreTold script.geometry (size_of script) (tries_of script) job (answers_to call trace) → (downs : ℕ) → IsToldAway downs (answers_to call trace) → TargetWasAway script trace call)
-        → ((job : Job) → job_of_call script call ≡ Some job → (version : ℕ) → AtMost script.geometry.parity_count (SkipsChunk trace call version)) → HasResult (λ what. ⊤) t call → HasResult IsDone t call
+  -- a rebuild
+  module _ (call : RepairCall) (free : IsUnhindered script trace (name.Repairer call)) where
+    pub is_done : HasItsPlace script trace (name.Repairer call)
+        → ((job : Job) → job_of_call script (name.Repairer call) ≡ Some job → AreTold script.geometry (size_of script) (tries_of script) job (answers_to (name.Repairer call) trace) → (downs : ℕ) → IsToldAway downs (answers_to (name.Repairer call) trace) → TargetWasAway script trace (name.Repairer call))
+        → ((job : Job) → job_of_call script (name.Repairer call) ≡ Some job → (version : ℕ) → AtMost script.geometry.parity_count (SkipsChunk trace (name.Repairer call) version)) → HasResult (λ what. ⊤) t call → HasResult IsDone t call
     is_done place told prepared has = (has.0, by caused.outcome caused.shows caused.caused, has.2)
       where
-        caused : WasCaused script trace call (λ outcome. result_of outcome ≡ Some has.0)
-        caused = All-contains (λ (l : RLine). WasCaused script trace l.call (λ outcome. result_of outcome ≡ Some l.result)) t.repairs (record { call = call; result = has.0 }) causes.repairs has.2
+        caused : WasCaused script trace (name.Repairer call) (λ outcome. result_of outcome ≡ Some has.0)
+        caused = All-contains (λ (l : RLine). WasCaused script trace (name.Repairer l.call) (λ outcome. result_of outcome ≡ Some l.result)) t.repairs (record { call = call; result = has.0 }) causes.repairs has.2
 
-        by : (outcome : Outcome) → result_of outcome ≡ Some has.0 → HasCauseInSteps script.geometry (tries_of script) caused.job outcome (answers_to call trace) → IsDone has.0
+        by : (outcome : Outcome) → result_of outcome ≡ Some has.0 → HasCauseInSteps script.geometry (tries_of script) caused.job outcome (answers_to (name.Repairer call) trace) → IsDone has.0
         by Outcome.Rebuilt shows h = subst IsDone (same_Some result.Rebuilt has.0 shows) tt
         by Outcome.Here shows h = subst IsDone (same_Some result.Here has.0 shows) tt
         by (Outcome.Away downs) shows h = absurd (place.target (told caused.job caused.is_call caused.are_told downs h.0))
-        by Outcome.NoSuch shows h = absurd (place.found (told_in (answers_to call trace) Told.NoSuch h))
-        by (Outcome.Superseded newer) shows h = absurd (place.current newer (told_in (answers_to call trace) (Told.Superseded newer) h))
+        by Outcome.NoSuch shows h = absurd (place.found (told_in (answers_to (name.Repairer call) trace) Told.NoSuch h))
+        by (Outcome.Superseded newer) shows h = absurd (place.current newer (told_in (answers_to (name.Repairer call) trace) (Told.Superseded newer) h))
         by (Outcome.Unavailable stripe missing) shows h =
             let there : Contains t.repairs (record { call = call; result = result.Unavailable stripe (map triple_of missing) }) =
             subst (λ r. Contains t.repairs (record { call = call; result = r })) (sym (same_Some (result.Unavailable stripe (map triple_of missing)) has.0 shows)) has.2 in
-            absurd (told_of_loss (prepared caused.job caused.is_call) caused.job caused.is_call stripe missing h
-            (All-contains (λ (l : RLine). ResultNamesLosses trace l.call l.result) t.repairs (record { call = call; result = result.Unavailable stripe (map triple_of missing) }) losses.repairs there))
-        by (Outcome.Reaped point) shows h = absurd (free.kept point (told_in (answers_to call trace) (Told.Reaped point) h))
-        by Outcome.NoMemory shows h = absurd (free.memory (told_in (answers_to call trace) Told.Short h))
+            absurd (told_of_loss (name.Repairer call) free (prepared caused.job caused.is_call) caused.job caused.is_call stripe missing h
+            (All-contains (λ (l : RLine). ResultNamesLosses trace (name.Repairer l.call) l.result) t.repairs (record { call = call; result = result.Unavailable stripe (map triple_of missing) }) losses.repairs there))
+        by (Outcome.Reaped point) shows h = absurd (free.kept point (told_in (answers_to (name.Repairer call) trace) (Told.Reaped point) h))
+        by Outcome.NoMemory shows h = absurd (free.memory (told_in (answers_to (name.Repairer call) trace) Told.Short h))
         by outcome shows h = absurd (none-some has.0 shows)

@@ -11,23 +11,23 @@ use Rattle.store_map.specs.declared.call.Call.TheVariants as call
 use Rattle.store_map.specs.declared.reply.Reply.{Reply}
 use Rattle.store_map.specs.declared.reply.Reply.TheVariants as reply
 use Rattle.store_map.specs.declared.script.Script.{Script}
-use Rattle.store_map.specs.declared.call_name.CallName.{CallName}
-use Rattle.store_map.specs.declared.call_name.CallName.TheVariants as name
+use Rattle.store_map.specs.declared.call_name.ClientCall.{ClientCall}
 use Rattle.store_map.specs.declared.shown.Shown.{Shown}
 use Rattle.store_map.specs.declared.line.HLine.{HLine}
 use Rattle.store_map.specs.declared.line.LLine.{LLine}
 use Rattle.store_core.specs.Core.{Core}
 use Rattle.store_core.specs.Directory.{Object, Event, Point}
-use Rattle.store_core.specs.History.{call_of, answered_in, applied, shown_at, name_of, line_of, history_from, history_of}
+use Rattle.store_core.specs.History.{call_of, answered_in, applied, shown_at, client_call, line_of, history_from, history_of}
 use Rattle.store_core.specs.Lengths.{Lengths, apply_length}
 use Rattle.store_core.specs.Note.{Note, note_of}
 use Rattle.store_core.specs.Replay.{FitsEvent, after_event, Replays}
+use Rattle.store_core.specs.RowLines.{client}
 use Rattle.store_core.specs.Schedule.{run_core}
 use Rattle.store_core.specs.Sound.{lengths_of}
 use Rattle.run_laws.proofs.Runs.{CanRun}
 use Rattle.run_laws.proofs.RunsSound.{RunKeeps}
 use Rattle.run_laws.proofs.Scripts.{can_run}
-use Rattle.hist_rules.specs.Calls.{call_of as client_call}
+use Rattle.hist_rules.specs.Calls.{call_of as script_call}
 use Rattle.hist_rules.specs.MapReplies.{ShowsReply}
 use Rattle.hist_rules.specs.RepliesMatch.{is_put_or_write}
 use Rattle.history_laws.proofs.TellReplies.{after_call, TellsReply, TellReplies, map_from, listed, replies_told, objects_told}
@@ -118,7 +118,7 @@ module _ (script : Script) (core : Core) (end : Lengths) where
   Told objects lines = TellReplies script objects lines × (lengths (map_from script objects lines) ≡ end)
 
   -- a line before others
-  with_line : (objects : Objects) (place : ℕ) (named : CallName) (made : Call) (rest : List HLine) (says : Option Shown) → client_call script named ≡ Some made
+  with_line : (objects : Objects) (place : ℕ) (named : ClientCall) (made : Call) (rest : List HLine) (says : Option Shown) → script_call script named ≡ Some made
       → ShownFits (size_of script) objects made says → Told (apply (size_of script) made objects).0 rest → Told objects (line_of place (Some named) says ++ rest)
   with_line objects place named made rest None is_call same told = subst (λ o. Told o rest) same told
   with_line objects place named made rest (Some says) is_call fits told =
@@ -128,18 +128,18 @@ module _ (script : Script) (core : Core) (end : Lengths) where
       (sym is_call) ((fits, told.0), told.1)
 
   -- a reap shows nothing
-  no_line : (place : ℕ) (named : Option CallName) → line_of place named None ≡ []
+  no_line : (place : ℕ) (named : Option ClientCall) → line_of place named None ≡ []
   no_line place None = refl
   no_line place (Some named) = refl
 
   -- the client that made a call
   pub record IsClients (who : Actor) (number : ℕ) (made : Call) : Type 0 where
-    pub named : CallName
-    pub is_name : name_of who number ≡ Some named
-    pub is_call : client_call script named ≡ Some made
+    pub named : ClientCall
+    pub is_name : client_call who number ≡ Some named
+    pub is_call : script_call script named ≡ Some made
 
   clients : (who : Actor) (number : ℕ) (made : Call) → call_of script who number ≡ Some made → IsClients who number made
-  clients (actor.Client i) number made e = record { named = name.Client i number; is_name = refl; is_call = e }
+  clients (actor.Client i) number made e = record { named = client i number; is_name = refl; is_call = e }
   clients (actor.Repairer i) number made e = absurd (none-some made e)
   clients actor.Sweeper number made e = absurd (none-some made e)
   clients actor.Operator number made e = absurd (none-some made e)
@@ -148,7 +148,7 @@ module _ (script : Script) (core : Core) (end : Lengths) where
   from place objects points = history_from (size_of script) (call_of script) (answered_in core) place objects points
 
   module _ (place : ℕ) (objects : Objects) (point : Point) (points : List Point) (later : (objects : Objects) → Replays (size_of script) (lengths objects) points end → Told objects (from (place + 1) objects points)) where
-    abbrev Goal : Event → Option CallName → Option Call → Type 0
+    abbrev Goal : Event → Option ClientCall → Option Call → Type 0
     Goal event named made =
         let next : Objects × Reply = applied (size_of script) objects event made in
         Told objects (line_of place named (shown_at event (answered_in core point.actor point.number) next.1) ++ from (place + 1) next.0 points)
@@ -157,13 +157,13 @@ module _ (script : Script) (core : Core) (end : Lengths) where
     reaped is_reaped replays =
         let rest : Replays (size_of script) (lengths objects) points end =
         subst (λ m. Replays (size_of script) (after_event m (lengths objects) (apply_length (size_of script) point.note (lengths objects)).0) points end) is_reaped replays.1 in
-        subst (λ m. Goal m (name_of point.actor point.number) (call_of script point.actor point.number)) (sym is_reaped)
-        (subst (λ (l : List HLine). Told objects (l ++ from (place + 1) objects points)) (sym (no_line place (name_of point.actor point.number))) (later objects rest))
+        subst (λ m. Goal m (client_call point.actor point.number) (call_of script point.actor point.number)) (sym is_reaped)
+        (subst (λ (l : List HLine). Told objects (l ++ from (place + 1) objects points)) (sym (no_line place (client_call point.actor point.number))) (later objects rest))
 
     of_call : IsOfCall script point → Replays (size_of script) (lengths objects) (point ∷ points) end → Told objects (from place objects (point ∷ points))
     of_call of replays =
-        subst (λ (c : Option Call). Goal point.event (name_of point.actor point.number) c) (sym of.is_call)
-        (subst (λ (n : Option CallName). Goal point.event n (Some of.call)) (sym by_client.is_name)
+        subst (λ (c : Option Call). Goal point.event (client_call point.actor point.number) c) (sym of.is_call)
+        (subst (λ (n : Option ClientCall). Goal point.event n (Some of.call)) (sym by_client.is_name)
         (subst
         (λ (next : Objects × Reply).
         Told objects (line_of place (Some by_client.named) (shown_at point.event (answered_in core point.actor point.number) next.1) ++ from (place + 1) next.0 points))

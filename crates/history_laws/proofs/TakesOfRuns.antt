@@ -11,6 +11,8 @@ use Rattle.store_map.specs.declared.call.Call.{Call}
 use Rattle.store_map.specs.declared.call.Rebuild.{Rebuild}
 use Rattle.store_map.specs.declared.reply.Reply.TheVariants as reply
 use Rattle.store_map.specs.declared.script.Script.{Script}
+use Rattle.store_map.specs.declared.call_name.ClientCall.{ClientCall}
+use Rattle.store_map.specs.declared.call_name.RepairCall.{RepairCall}
 use Rattle.store_map.specs.declared.call_name.CallName.{CallName}
 use Rattle.store_map.specs.declared.call_name.CallName.TheVariants as name
 use Rattle.store_map.specs.declared.cause.RepairResult.{RepairResult}
@@ -27,8 +29,9 @@ use Rattle.store_core.specs.History.{is_answer, is_answered}
 use Rattle.store_core.specs.NextAct.{Job, rebuild_job}
 use Rattle.store_core.specs.Note.{Note, Kind, note_of}
 use Rattle.store_core.specs.Outcomes.{result_of}
+use Rattle.store_core.specs.RowLines.{client}
 use Rattle.store_core.specs.Schedule.{run_core}
-use Rattle.store_core.specs.Shown.{shown}
+use Rattle.store_core.specs.Shown.{shown, client_name}
 use Rattle.store_core.specs.Work.{Ended, Calling, client_work, repairer_work}
 use Rattle.run_laws.specs.OutcomeLaws.{MayBeServed}
 use Rattle.run_laws.specs.ToldInSteps.{AreTold, act_after}
@@ -108,37 +111,35 @@ module _ (script : Script) (geometry : IsGeometry script.geometry) (core : Core)
   log_of call job is told = record { are_told = told; exact = exact_answers script core known trace has call job is }
 
   -- ---- rebuilds
-  rebuild_least : (causes : LinesAreCaused script trace t) (call : CallName) (rebuild : Rebuild) → rebuild_of script call ≡ Some rebuild → Contains t.repairs (record { call = call; result = result.Rebuilt })
-      → missing_count (answers_to call trace) ≡ 1 → TookLeast script.geometry rebuild.server (takes_shown t call)
-  rebuild_least causes (name.Client i number) rebuild is line one = absurd (none-some rebuild is)
-  rebuild_least causes (name.Repairer i number) rebuild is line one =
-      let call : CallName = name.Repairer i number in
-      let w : WasCaused script trace call (λ outcome. result_of outcome ≡ Some result.Rebuilt) =
-      All-contains (λ (l : RLine). WasCaused script trace l.call (λ outcome. result_of outcome ≡ Some l.result)) t.repairs (record { call = name.Repairer i number; result = result.Rebuilt }) causes.repairs line in
-      let own : (r : Rebuild) × (rebuild_of script (name.Repairer i number) ≡ Some r) × (rebuild_job r ≡ w.job) = rebuild_is script i number w.job w.is_call in
+  rebuild_least : (causes : LinesAreCaused script trace t) (call : RepairCall) (rebuild : Rebuild) → rebuild_of script call ≡ Some rebuild → Contains t.repairs (record { call = call; result = result.Rebuilt })
+      → missing_count (answers_to (name.Repairer call) trace) ≡ 1 → TookLeast script.geometry rebuild.server (takes_shown t (name.Repairer call))
+  rebuild_least causes call rebuild is line one =
+      let named : CallName = name.Repairer call in
+      let w : WasCaused script trace named (λ outcome. result_of outcome ≡ Some result.Rebuilt) =
+      All-contains (λ (l : RLine). WasCaused script trace (name.Repairer l.call) (λ outcome. result_of outcome ≡ Some l.result)) t.repairs (record { call = call; result = result.Rebuilt }) causes.repairs line in
+      let own : (r : Rebuild) × (rebuild_of script call ≡ Some r) × (rebuild_job r ≡ w.job) = rebuild_is script call w.job w.is_call in
       let job_is : rebuild_job rebuild ≡ w.job = ap rebuild_job (same_Some rebuild own.0 (sym is ∙ own.1)) ∙ own.2 in
       let kind : w.job.note.kind ≡ Kind.Rebuild = sym (ap (λ (j : Job). j.note.kind) job_is) in
       let target : w.job.target ≡ rebuild.server = sym (ap (λ (j : Job). j.target) job_is) in
-      let p : Place (repairer_work script) core.repairers i number w.job = repairer_place script core known trace has.causes i number w.job w.is_call in
-      let within : w.job.target < chunk_count script.geometry = known.can.repairers.targets i p.work p.is_work number w.job p.is_job kind in
-      let ends : act_after script.geometry (tries_of script) w.job (answers_to call trace) ≡ Act.Finish Outcome.Rebuilt = w.ends ∙ ap Act.Finish (rebuilt w.outcome w.shows) in
-      let law : TookLeast script.geometry w.job.target (taken call w.job) = rebuilds_take_least script geometry w.job kind within (answers_to call trace) (log_of call w.job w.is_call w.are_told) ends one in
-      subst (λ n. TookLeast script.geometry n (takes_shown t call)) target
-      (record { none = at_server call w.job w.is_call w.job.target ∙ law.none; others = λ server low differ. at_server call w.job w.is_call server ∙ law.others server low differ })
+      let p : Place (repairer_work script) core.repairers call.repairer call.number w.job = repairer_place script core known trace has.causes call.repairer call.number w.job w.is_call in
+      let within : w.job.target < chunk_count script.geometry = known.can.repairers.targets call.repairer p.work p.is_work call.number w.job p.is_job kind in
+      let ends : act_after script.geometry (tries_of script) w.job (answers_to named trace) ≡ Act.Finish Outcome.Rebuilt = w.ends ∙ ap Act.Finish (rebuilt w.outcome w.shows) in
+      let law : TookLeast script.geometry w.job.target (taken named w.job) = rebuilds_take_least script geometry w.job kind within (answers_to named trace) (log_of named w.job w.is_call w.are_told) ends one in
+      subst (λ n. TookLeast script.geometry n (takes_shown t named)) target
+      (record { none = at_server named w.job w.is_call w.job.target ∙ law.none; others = λ server low differ. at_server named w.job w.is_call server ∙ law.others server low differ })
 
   -- ---- reads
-  replied : (i number : ℕ) (calling : Calling) (ended : Ended) → slice_get core.clients i ≡ Some calling → slice_get calling.ended number ≡ Some ended → answered_at core (name.Client i number) ≡ true → is_answered ended.outcome ≡ true
+  replied : (i number : ℕ) (calling : Calling) (ended : Ended) → slice_get core.clients i ≡ Some calling → slice_get calling.ended number ≡ Some ended → answered_at core (client_name i number) ≡ true → is_answered ended.outcome ≡ true
   replied i number calling ended is_calling is_ended answered =
       sym {a = is_answer (option_and_then (λ (c : Calling). slice_get c.ended number) (slice_get core.clients i))} (ap (λ o. is_answer (option_and_then (λ (c : Calling). slice_get c.ended number) o)) is_calling ∙ ap is_answer is_ended) ∙ answered
 
-  noted : (i number : ℕ) (job : Job) → OfScript script i number job → (asked : Call) → call_of script (name.Client i number) ≡ Some asked → job.note ≡ note_of asked
+  noted : (i number : ℕ) (job : Job) → OfScript script i number job → (asked : Call) → call_of script (client i number) ≡ Some asked → job.note ≡ note_of asked
   noted i number job of asked is = sym (ap (λ (j : Job). j.note) of.is_job) ∙ ap note_of (same_Some of.call asked (sym of.is_call ∙ is))
 
-  has_reply : (i number : ℕ) (line : HLine) → line.call ≡ name.Client i number → is_reply line.reply ≡ true → Contains t.history line → answered_at core (name.Client i number) ≡ true
-  has_reply i number line of_call is has_line =
-      subst (λ c. answered_at core c ≡ true) of_call
-      (All-contains (λ c. answered_at core c ≡ true) (map (λ (l : HLine). l.call) (filter (λ (l : HLine). is_reply l.reply) t.history)) line.call (all_replied script core known)
-      (map_contains (λ (l : HLine). l.call) (filter (λ (l : HLine). is_reply l.reply) t.history) line (filtered (λ (l : HLine). is_reply l.reply) t.history line is has_line)))
+  has_reply : (line : HLine) → is_reply line.reply ≡ true → Contains t.history line → answered_at core (name.Client line.call) ≡ true
+  has_reply line is has_line =
+      All-contains (λ c. answered_at core c ≡ true) (map (λ (l : HLine). name.Client l.call) (filter (λ (l : HLine). is_reply l.reply) t.history)) (name.Client line.call) (all_replied script core known)
+      (map_contains (λ (l : HLine). name.Client l.call) (filter (λ (l : HLine). is_reply l.reply) t.history) line (filtered (λ (l : HLine). is_reply l.reply) t.history line is has_line))
 
   read_job : (call : CallName) (job : Job) → job_of_call script call ≡ Some job → AreTold script.geometry (size_of script) (tries_of script) job (answers_to call trace) → (outcome : Outcome) (point : ℕ) → outcome ≡ Outcome.Served point
       → act_after script.geometry (tries_of script) job (answers_to call trace) ≡ Act.Finish outcome → missing_count (answers_to call trace) ≡ 0 → TookRange script.geometry job.note (answers_to call trace) (takes_shown t call)
@@ -149,25 +150,24 @@ module _ (script : Script) (geometry : IsGeometry script.geometry) (core : Core)
       let law : TookRange script.geometry job.note (answers_to call trace) (taken call job) = reads_take_least script job kind (answers_to call trace) (log_of call job is told) point ends none in
       record { point = law.point; size = law.size; stripes = law.stripes; looked = law.looked; met = λ server low. at_server call job is server ∙ law.met server low }
 
-  read_least : (call : CallName) (asked : Call) → call_of script call ≡ Some asked → (point : ℕ) (bytes : List ℕ) → Contains t.history (record { point = point; call = call; reply = shown_as.Reply (reply.Bytes bytes) })
-      → missing_count (answers_to call trace) ≡ 0 → TookRange script.geometry (note_of asked) (answers_to call trace) (takes_shown t call)
-  read_least (name.Repairer i number) asked is point bytes line none = absurd (none-some asked is)
-  read_least (name.Client i number) asked is point bytes line none =
-      let call : CallName = name.Client i number in
-      let this : HLine = record { point = point; call = name.Client i number; reply = shown_as.Reply (reply.Bytes bytes) } in
-      let answered : answered_at core call ≡ true = has_reply i number this refl refl line in
-      let over : IsOver script trace call = below_over script core known trace has.causes call (answered_below core call answered) in
-      let p : Place (client_work script) core.clients i number over.0 = client_place script core known trace has.causes i number over.0 over.1 in
-      let low : number < ended_of (Some p.calling) = subst (λ o. number < ended_of o) p.is_calling (answered_below core call answered) in
-      let e : (x : Ended) × (slice_get p.calling.ended number ≡ Some x) = inside p.calling.ended number low in
-      let ended : AreTold script.geometry (size_of script) (tries_of script) over.0 (answers_to call trace) × (act_after script.geometry (tries_of script) over.0 (answers_to call trace) ≡ Act.Finish e.0.outcome) =
-      (has.causes.clients i p.calling p.is_calling p.work p.is_work).ended number over.0 e.0 p.is_job e.1 in
-      let pin : (place : ℕ) × PointAt (actor.Client i) number IsPin core.directory.points place =
-      bytes_pinned script core known i number point bytes (All-contains (ShownPoint script core core.directory.points) t.history this (all_shown script core) line) in
+  read_least : (call : ClientCall) (asked : Call) → call_of script call ≡ Some asked → (point : ℕ) (bytes : List ℕ) → Contains t.history (record { point = point; call = call; reply = shown_as.Reply (reply.Bytes bytes) })
+      → missing_count (answers_to (name.Client call) trace) ≡ 0 → TookRange script.geometry (note_of asked) (answers_to (name.Client call) trace) (takes_shown t (name.Client call))
+  read_least call asked is point bytes line none =
+      let named : CallName = name.Client call in
+      let this : HLine = record { point = point; call = call; reply = shown_as.Reply (reply.Bytes bytes) } in
+      let answered : answered_at core named ≡ true = has_reply this refl line in
+      let over : IsOver script trace named = below_over script core known trace has.causes named (answered_below core named answered) in
+      let p : Place (client_work script) core.clients call.client call.number over.0 = client_place script core known trace has.causes call.client call.number over.0 over.1 in
+      let low : call.number < ended_of (Some p.calling) = subst (λ o. call.number < ended_of o) p.is_calling (answered_below core named answered) in
+      let e : (x : Ended) × (slice_get p.calling.ended call.number ≡ Some x) = inside p.calling.ended call.number low in
+      let ended : AreTold script.geometry (size_of script) (tries_of script) over.0 (answers_to named trace) × (act_after script.geometry (tries_of script) over.0 (answers_to named trace) ≡ Act.Finish e.0.outcome) =
+      (has.causes.clients call.client p.calling p.is_calling p.work p.is_work).ended call.number over.0 e.0 p.is_job e.1 in
+      let pin : (place : ℕ) × PointAt (actor.Client call.client) call.number IsPin core.directory.points place =
+      bytes_pinned script core known call point bytes (All-contains (ShownPoint script core core.directory.points) t.history this (all_shown script core) line) in
       let served : (at : ℕ) × (e.0.outcome ≡ Outcome.Served at) =
-      was_served core.directory.points known.kept.sound.points (actor.Client i) (known.can.clients.self i) number e.0.outcome (replied i number p.calling e.0 p.is_calling e.1 answered) (known.has_points i p.calling p.is_calling number e.0 e.1) pin.0 pin.1 in
-      subst (λ (note : Note). TookRange script.geometry note (answers_to call trace) (takes_shown t call)) (noted i number over.0 (job_call script i number p.work over.0 p.is_work p.is_job) asked is)
-      (read_job call over.0 over.1 ended.0 e.0.outcome served.0 served.1 ended.1 none)
+      was_served core.directory.points known.kept.sound.points (actor.Client call.client) (known.can.clients.self call.client) call.number e.0.outcome (replied call.client call.number p.calling e.0 p.is_calling e.1 answered) (known.has_points call.client p.calling p.is_calling call.number e.0 e.1) pin.0 pin.1 in
+      subst (λ (note : Note). TookRange script.geometry note (answers_to named trace) (takes_shown t named)) (noted call.client call.number over.0 (job_call script call.client call.number p.work over.0 p.is_work p.is_job) asked is)
+      (read_job named over.0 over.1 ended.0 e.0.outcome served.0 served.1 ended.1 none)
 
 pub runs_take_least : RunsTakeLeast
 runs_take_least script shortages geometry valid tokens =

@@ -14,7 +14,6 @@ use Rattle.store_map.specs.declared.actor.Token.{Token}
 use Rattle.store_map.specs.declared.actor.Token.TheVariants as token
 use Rattle.store_map.specs.declared.script.Script.{Script}
 use Rattle.store_map.specs.declared.call_name.CallName.{CallName}
-use Rattle.store_map.specs.declared.call_name.CallName.TheVariants as name
 use Rattle.store_map.specs.declared.line.GLine.{GLine}
 use Rattle.store_map.specs.declared.line.TLine.{TLine}
 use Rattle.store_core.specs.Act.{Act, DirectoryStep, ServerStep}
@@ -24,7 +23,7 @@ use Rattle.store_core.specs.NextAct.{Job, next_act}
 use Rattle.store_core.specs.Run.{places_in}
 use Rattle.store_core.specs.Schedule.{run_core}
 use Rattle.store_core.specs.Server.{Server, new_server, raised_by, at_server}
-use Rattle.store_core.specs.Shown.{shown, take_line, take_lines, lines_of_actors}
+use Rattle.store_core.specs.Shown.{shown, take_line, take_lines, lines_of_actors, client_name, repairer_name}
 use Rattle.store_core.specs.Step.{Shortage, Places, at_places, at_server_there, take_from, ended_by, actor_step}
 use Rattle.store_core.specs.Sweep.{Sweeper, next_sweep}
 use Rattle.store_core.specs.Tell.{tell}
@@ -545,13 +544,13 @@ actors_sum j nm a (c ∷ cs) =
 
 -- the column of a server
 pub column_sum : (j : ℕ) (clients repairers : List Calling)
-    → column j (lines_of_actors (λ i. take_lines (name.Client i)) clients ++ lines_of_actors (λ i. take_lines (name.Repairer i)) repairers) ≡ group j clients + group j repairers
+    → column j (lines_of_actors (λ i. take_lines (client_name i)) clients ++ lines_of_actors (λ i. take_lines (repairer_name i)) repairers) ≡ group j clients + group j repairers
 column_sum j clients repairers =
-    let both : column j (lines_of_actors (λ i. take_lines (name.Client i)) clients ++ lines_of_actors (λ i. take_lines (name.Repairer i)) repairers)
-    ≡ sum_by (of_line j) (lines_of_actors (λ i. take_lines (name.Client i)) clients) + sum_by (of_line j) (lines_of_actors (λ i. take_lines (name.Repairer i)) repairers) =
-    sum_by-append (of_line j) (lines_of_actors (λ i. take_lines (name.Client i)) clients) (lines_of_actors (λ i. take_lines (name.Repairer i)) repairers) in
-    let one : sum_by (of_line j) (lines_of_actors (λ i. take_lines (name.Client i)) clients) ≡ group j clients = actors_sum j name.Client 0 clients in
-    let two : sum_by (of_line j) (lines_of_actors (λ i. take_lines (name.Repairer i)) repairers) ≡ group j repairers = actors_sum j name.Repairer 0 repairers in
+    let both : column j (lines_of_actors (λ i. take_lines (client_name i)) clients ++ lines_of_actors (λ i. take_lines (repairer_name i)) repairers)
+    ≡ sum_by (of_line j) (lines_of_actors (λ i. take_lines (client_name i)) clients) + sum_by (of_line j) (lines_of_actors (λ i. take_lines (repairer_name i)) repairers) =
+    sum_by-append (of_line j) (lines_of_actors (λ i. take_lines (client_name i)) clients) (lines_of_actors (λ i. take_lines (repairer_name i)) repairers) in
+    let one : sum_by (of_line j) (lines_of_actors (λ i. take_lines (client_name i)) clients) ≡ group j clients = actors_sum j client_name 0 clients in
+    let two : sum_by (of_line j) (lines_of_actors (λ i. take_lines (repairer_name i)) repairers) ≡ group j repairers = actors_sum j repairer_name 0 repairers in
     omega (arith, both, one, two)
 
 abbrev line_of_server : ℕ × Server → TLine
@@ -575,7 +574,7 @@ takes_match script can shortages tokens few =
     let core : Core = run_core script shortages tokens in
     let end : RunKeeps script core × Matching (chunk_count script.geometry) tokens core =
     run_has script can (Matching (chunk_count script.geometry)) (matching_kept script can) shortages (first_matching script can) tokens in
-    let lines : List GLine = lines_of_actors (λ i. take_lines (name.Client i)) core.clients ++ lines_of_actors (λ i. take_lines (name.Repairer i)) core.repairers in
+    let lines : List GLine = lines_of_actors (λ i. take_lines (client_name i)) core.clients ++ lines_of_actors (λ i. take_lines (repairer_name i)) core.repairers in
     record {
       taken =
           server_lines (λ line. line.taken ≡ min (column line.server lines) (2 ^ 64 - 1)) 0 core.servers

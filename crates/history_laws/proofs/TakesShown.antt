@@ -16,7 +16,7 @@ use Rattle.store_map.specs.declared.line.GLine.{GLine}
 use Rattle.hist_rules.specs.Calls.{same_call}
 use Rattle.store_core.specs.Core.{Core}
 use Rattle.store_core.specs.NextAct.{Job}
-use Rattle.store_core.specs.Shown.{shown, take_line, take_lines, lines_of_ended, lines_of_actors}
+use Rattle.store_core.specs.Shown.{shown, take_line, take_lines, lines_of_ended, lines_of_actors, client_name, repairer_name}
 use Rattle.store_core.specs.Work.{Ended, Calling, client_work, repairer_work}
 use Rattle.history_laws.proofs.NamedCalls.{inside, no_zeros}
 use Rattle.history_laws.proofs.OrderEnds.{EndKnown}
@@ -61,7 +61,7 @@ and_false : (a b : Bool) → b ≡ false → (a && b) ≡ false
 and_false true b e = e
 and_false false b e = refl
 
-client_names : Names name.Client
+client_names : Names client_name
 client_names =
     record {
       itself = λ i n. ap (λ b. b && nat_eq n n) (eq-eqb i i refl) ∙ eq-eqb n n refl;
@@ -69,7 +69,7 @@ client_names =
       later = λ i m n differ. and_false (nat_eq i i) (nat_eq m n) (ne_eqb m n (λ same. differ (sym same)));
     }
 
-repairer_names : Names name.Repairer
+repairer_names : Names repairer_name
 repairer_names =
     record {
       itself = λ i n. ap (λ b. b && nat_eq n n) (eq-eqb i i refl) ∙ eq-eqb n n refl;
@@ -182,31 +182,31 @@ module _ (who : ℕ → ℕ → CallName) (names : Names who) (i number : ℕ) w
 -- ---- of a run
 module _ (script : Script) (core : Core) (known : EndKnown script core) (trace : List Made) (has : TakesSoFar script trace core) where
   pub lines_given : (call : CallName) (job : Job) → job_of_call script call ≡ Some job → lines_of_takes (shown script core) call ≡ take_line call (taken_by script.geometry (tries_of script) job (answers_to call trace))
-  lines_given (name.Client i number) job is =
-      let p : Place (client_work script) core.clients i number job = client_place script core known trace has.causes i number job is in
-      filter-append (mine (name.Client i number)) (lines_of_actors (λ j. take_lines (name.Client j)) core.clients) (lines_of_actors (λ j. take_lines (name.Repairer j)) core.repairers)
-      ∙ ap (λ l. filter (mine (name.Client i number)) (lines_of_actors (λ j. take_lines (name.Client j)) core.clients) ++ l) (strangers (name.Client i number) name.Repairer (λ j n. refl) core.repairers)
-      ∙ append-nil (filter (mine (name.Client i number)) (lines_of_actors (λ j. take_lines (name.Client j)) core.clients))
-      ∙ group_lines name.Client client_names i number core.clients p.calling p.is_calling
-      ∙ given_line name.Client client_names i number script.geometry (tries_of script) trace (actor.Client i) p.work.jobs p.calling (has.clients i p.calling p.is_calling p.work p.is_work) job p.is_job
-      ((has.causes.clients i p.calling p.is_calling p.work p.is_work).later number)
-  lines_given (name.Repairer i number) job is =
-      let p : Place (repairer_work script) core.repairers i number job = repairer_place script core known trace has.causes i number job is in
-      filter-append (mine (name.Repairer i number)) (lines_of_actors (λ j. take_lines (name.Client j)) core.clients) (lines_of_actors (λ j. take_lines (name.Repairer j)) core.repairers)
-      ∙ ap (λ l. l ++ filter (mine (name.Repairer i number)) (lines_of_actors (λ j. take_lines (name.Repairer j)) core.repairers)) (strangers (name.Repairer i number) name.Client (λ j n. refl) core.clients)
-      ∙ group_lines name.Repairer repairer_names i number core.repairers p.calling p.is_calling
-      ∙ given_line name.Repairer repairer_names i number script.geometry (tries_of script) trace (actor.Repairer i) p.work.jobs p.calling (has.repairers i p.calling p.is_calling p.work p.is_work) job p.is_job
-      ((has.causes.repairers i p.calling p.is_calling p.work p.is_work).later number)
+  lines_given (name.Client call) job is =
+      let p : Place (client_work script) core.clients call.client call.number job = client_place script core known trace has.causes call.client call.number job is in
+      filter-append (mine (name.Client call)) (lines_of_actors (λ j. take_lines (client_name j)) core.clients) (lines_of_actors (λ j. take_lines (repairer_name j)) core.repairers)
+      ∙ ap (λ l. filter (mine (name.Client call)) (lines_of_actors (λ j. take_lines (client_name j)) core.clients) ++ l) (strangers (name.Client call) repairer_name (λ j n. refl) core.repairers)
+      ∙ append-nil (filter (mine (name.Client call)) (lines_of_actors (λ j. take_lines (client_name j)) core.clients))
+      ∙ group_lines client_name client_names call.client call.number core.clients p.calling p.is_calling
+      ∙ given_line client_name client_names call.client call.number script.geometry (tries_of script) trace (actor.Client call.client) p.work.jobs p.calling (has.clients call.client p.calling p.is_calling p.work p.is_work) job p.is_job
+      ((has.causes.clients call.client p.calling p.is_calling p.work p.is_work).later call.number)
+  lines_given (name.Repairer call) job is =
+      let p : Place (repairer_work script) core.repairers call.repairer call.number job = repairer_place script core known trace has.causes call.repairer call.number job is in
+      filter-append (mine (name.Repairer call)) (lines_of_actors (λ j. take_lines (client_name j)) core.clients) (lines_of_actors (λ j. take_lines (repairer_name j)) core.repairers)
+      ∙ ap (λ l. l ++ filter (mine (name.Repairer call)) (lines_of_actors (λ j. take_lines (repairer_name j)) core.repairers)) (strangers (name.Repairer call) client_name (λ j n. refl) core.clients)
+      ∙ group_lines repairer_name repairer_names call.repairer call.number core.repairers p.calling p.is_calling
+      ∙ given_line repairer_name repairer_names call.repairer call.number script.geometry (tries_of script) trace (actor.Repairer call.repairer) p.work.jobs p.calling (has.repairers call.repairer p.calling p.is_calling p.work p.is_work) job p.is_job
+      ((has.causes.repairers call.repairer p.calling p.is_calling p.work p.is_work).later call.number)
 
   pub exact_answers : (call : CallName) (job : Job) → job_of_call script call ≡ Some job → AreExactSince script.geometry (tries_of script) job [] (answers_to call trace)
-  exact_answers (name.Client i number) job is =
-      let p : Place (client_work script) core.clients i number job = client_place script core known trace has.causes i number job is in
-      exact_given name.Client client_names i number script.geometry (tries_of script) trace (actor.Client i) p.work.jobs p.calling (has.clients i p.calling p.is_calling p.work p.is_work) job p.is_job
-      ((has.causes.clients i p.calling p.is_calling p.work p.is_work).later number)
-  exact_answers (name.Repairer i number) job is =
-      let p : Place (repairer_work script) core.repairers i number job = repairer_place script core known trace has.causes i number job is in
-      exact_given name.Repairer repairer_names i number script.geometry (tries_of script) trace (actor.Repairer i) p.work.jobs p.calling (has.repairers i p.calling p.is_calling p.work p.is_work) job p.is_job
-      ((has.causes.repairers i p.calling p.is_calling p.work p.is_work).later number)
+  exact_answers (name.Client call) job is =
+      let p : Place (client_work script) core.clients call.client call.number job = client_place script core known trace has.causes call.client call.number job is in
+      exact_given client_name client_names call.client call.number script.geometry (tries_of script) trace (actor.Client call.client) p.work.jobs p.calling (has.clients call.client p.calling p.is_calling p.work p.is_work) job p.is_job
+      ((has.causes.clients call.client p.calling p.is_calling p.work p.is_work).later call.number)
+  exact_answers (name.Repairer call) job is =
+      let p : Place (repairer_work script) core.repairers call.repairer call.number job = repairer_place script core known trace has.causes call.repairer call.number job is in
+      exact_given repairer_name repairer_names call.repairer call.number script.geometry (tries_of script) trace (actor.Repairer call.repairer) p.work.jobs p.calling (has.repairers call.repairer p.calling p.is_calling p.work p.is_work) job p.is_job
+      ((has.causes.repairers call.repairer p.calling p.is_calling p.work p.is_work).later call.number)
 
 -- ---- the takes of a line
 none_of : (takes : List ℕ) → list_any (nat_lt 0) takes ≡ false → (server : ℕ) → get_or takes server 0 ≡ 0

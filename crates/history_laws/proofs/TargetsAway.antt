@@ -12,11 +12,10 @@ use Rattle.store_map.specs.declared.call.Rebuild.{Rebuild}
 use Rattle.store_map.specs.declared.placement.Found.TheVariants as found
 use Rattle.store_map.specs.declared.script.RepairPart.{RepairPart}
 use Rattle.store_map.specs.declared.script.Script.{Script}
-use Rattle.store_map.specs.declared.call_name.CallName.{CallName}
+use Rattle.store_map.specs.declared.call_name.RepairCall.{RepairCall}
 use Rattle.store_map.specs.declared.call_name.CallName.TheVariants as name
 use Rattle.hist_rules.specs.Calls.{rebuild_of}
 use Rattle.store_core.specs.Act.{Act, DirectoryStep, ServerStep}
-use Rattle.store_core.specs.History.{name_of}
 use Rattle.store_core.specs.Lookups.{same_actor}
 use Rattle.store_core.specs.NextAct.{Job, rebuild_job, next_by}
 use Rattle.store_core.specs.Note.{Kind}
@@ -30,7 +29,7 @@ use Rattle.run_laws.specs.ToldInSteps.{IsToldNext, AreToldSince, AreTold, act_af
 use Rattle.run_laws.proofs.Orders.{calls_keep_order}
 use Rattle.run_laws.proofs.Passes.{same_is}
 use Rattle.history_laws.specs.LineCauses.{told_by, told_if, told_to, job_of_call}
-use Rattle.history_laws.specs.Moments.{IsOf}
+use Rattle.history_laws.specs.Moments.{name_of, IsOf}
 use Rattle.history_laws.specs.Trace.{Made}
 use Rattle.history_laws.specs.Over.{answers_to}
 use Rattle.history_laws.specs.Unhindered.{TargetWasAway}
@@ -168,43 +167,40 @@ first_two downs (Told.PinnedStripe seen ∷ answer ∷ told) h = absurd h
 first_two downs (answer ∷ told) h = absurd h
 
 -- the rebuild of a job
-pub rebuild_is : (script : Script) (i number : ℕ) (job : Job) → job_of_call script (name.Repairer i number) ≡ Some job → (rebuild : Rebuild) × (rebuild_of script (name.Repairer i number) ≡ Some rebuild) × (rebuild_job rebuild ≡ job)
-rebuild_is script i number job e = by (slice_get script.repairers i) refl (sym (ap (option_and_then (λ (w : Work). slice_get w.jobs number)) (slice_get-map work_of script.repairers i)) ∙ e)
+pub rebuild_is : (script : Script) (call : RepairCall) (job : Job) → job_of_call script (name.Repairer call) ≡ Some job → (rebuild : Rebuild) × (rebuild_of script call ≡ Some rebuild) × (rebuild_job rebuild ≡ job)
+rebuild_is script call job e = by (slice_get script.repairers call.repairer) refl (sym (ap (option_and_then (λ (w : Work). slice_get w.jobs call.number)) (slice_get-map work_of script.repairers call.repairer)) ∙ e)
   where
     work_of : RepairPart → Work
     work_of part = record { jobs = map rebuild_job part.calls; leave = part.leave }
 
-    one : (part : RepairPart) → slice_get script.repairers i ≡ Some part → (call : Option Rebuild) → slice_get part.calls number ≡ call → option_map rebuild_job call ≡ Some job
-        → (rebuild : Rebuild) × (rebuild_of script (name.Repairer i number) ≡ Some rebuild) × (rebuild_job rebuild ≡ job)
+    one : (part : RepairPart) → slice_get script.repairers call.repairer ≡ Some part → (asked : Option Rebuild) → slice_get part.calls call.number ≡ asked → option_map rebuild_job asked ≡ Some job
+        → (rebuild : Rebuild) × (rebuild_of script call ≡ Some rebuild) × (rebuild_job rebuild ≡ job)
     one part is None is_call k = absurd (none-some job k)
-    one part is (Some rebuild) is_call k = (rebuild, ap (option_and_then (λ (p : RepairPart). slice_get p.calls number)) is ∙ is_call, same_Some (rebuild_job rebuild) job k)
+    one part is (Some rebuild) is_call k = (rebuild, ap (option_and_then (λ (p : RepairPart). slice_get p.calls call.number)) is ∙ is_call, same_Some (rebuild_job rebuild) job k)
 
-    by : (found : Option RepairPart) → slice_get script.repairers i ≡ found → option_and_then (λ (w : Work). slice_get w.jobs number) (option_map (λ (part : RepairPart). record { jobs = map rebuild_job part.calls; leave = part.leave }) found) ≡ Some job
-        → (rebuild : Rebuild) × (rebuild_of script (name.Repairer i number) ≡ Some rebuild) × (rebuild_job rebuild ≡ job)
+    by : (found : Option RepairPart) → slice_get script.repairers call.repairer ≡ found → option_and_then (λ (w : Work). slice_get w.jobs call.number) (option_map (λ (part : RepairPart). record { jobs = map rebuild_job part.calls; leave = part.leave }) found) ≡ Some job
+        → (rebuild : Rebuild) × (rebuild_of script call ≡ Some rebuild) × (rebuild_job rebuild ≡ job)
     by None is k = absurd (none-some job k)
-    by (Some part) is k = one part is (slice_get part.calls number) refl (sym (slice_get-map rebuild_job part.calls number) ∙ k)
+    by (Some part) is k = one part is (slice_get part.calls call.number) refl (sym (slice_get-map rebuild_job part.calls call.number) ∙ k)
 
-module _ (script : Script) (trace : List Made) (next : StepsAreNext script trace) (i number : ℕ) where
-  abbrev call : CallName
-  call = name.Repairer i number
-
+module _ (script : Script) (trace : List Made) (next : StepsAreNext script trace) (call : RepairCall) where
   -- a step of the rebuild
-  is_of : (made : Made) → is_mine (actor.Repairer i) number made ≡ true → IsOf (name.Repairer i number) made
+  is_of : (made : Made) → is_mine (actor.Repairer call.repairer) call.number made ≡ true → IsOf (name.Repairer call) made
   is_of made mine =
-      let same_who : actor.Repairer i ≡ made.who = same_is (actor.Repairer i) made.who (both_left (same_actor (actor.Repairer i) made.who) (nat_eq number made.number) mine) in
-      let same_number : number ≡ made.number = eqb-true number made.number (both_right (same_actor (actor.Repairer i) made.who) (nat_eq number made.number) mine) in
+      let same_who : actor.Repairer call.repairer ≡ made.who = same_is (actor.Repairer call.repairer) made.who (both_left (same_actor (actor.Repairer call.repairer) made.who) (nat_eq call.number made.number) mine) in
+      let same_number : call.number ≡ made.number = eqb-true call.number made.number (both_right (same_actor (actor.Repairer call.repairer) made.who) (nat_eq call.number made.number) mine) in
       λ k. name_of (sym same_who k) (sym same_number k)
 
   -- the target told so
-  pub target_told : (job : Job) → job_of_call script (name.Repairer i number) ≡ Some job → AreTold script.geometry (size_of script) (tries_of script) job (answers_to (name.Repairer i number) trace) → (downs : ℕ)
-      → IsToldAway downs (answers_to (name.Repairer i number) trace) → TargetWasAway script trace (name.Repairer i number)
+  pub target_told : (job : Job) → job_of_call script (name.Repairer call) ≡ Some job → AreTold script.geometry (size_of script) (tries_of script) job (answers_to (name.Repairer call) trace) → (downs : ℕ)
+      → IsToldAway downs (answers_to (name.Repairer call) trace) → TargetWasAway script trace (name.Repairer call)
   target_told job is are_told downs away = by away
     where
-      of : (rebuild : Rebuild) × (rebuild_of script (name.Repairer i number) ≡ Some rebuild) × (rebuild_job rebuild ≡ job)
-      of = rebuild_is script i number job is
+      of : (rebuild : Rebuild) × (rebuild_of script call ≡ Some rebuild) × (rebuild_job rebuild ≡ job)
+      of = rebuild_is script call job is
 
-      at_target : (front : List Told) (x : Told) (server : ℕ) (step : ServerStep) → ToldAt (actor.Repairer i) number trace front x → act_after script.geometry (tries_of script) job front ≡ Act.AtServer server step → server ≡ job.target
-          → (x ≡ Told.Away downs) ⊎ (x ≡ Told.Missing (found.Away downs)) → TargetWasAway script trace (name.Repairer i number)
+      at_target : (front : List Told) (x : Told) (server : ℕ) (step : ServerStep) → ToldAt (actor.Repairer call.repairer) call.number trace front x → act_after script.geometry (tries_of script) job front ≡ Act.AtServer server step → server ≡ job.target
+          → (x ≡ Told.Away downs) ⊎ (x ≡ Told.Missing (found.Away downs)) → TargetWasAway script trace (name.Repairer call)
       at_target front x server step at acts target says = (
         of.0,
         of.1,
@@ -215,7 +211,7 @@ module _ (script : Script) (trace : List Made) (next : StepsAreNext script trace
           split = at.split;
           is = (
             is_of at.made at.mine,
-            (step, next (name.Repairer i number) job is at.before at.made at.after at.split (is_of at.made at.mine) ∙ ap (act_after script.geometry (tries_of script) job) at.told ∙ acts ∙ ap (λ s. Act.AtServer s step) (target ∙ ap (λ (j : Job). j.target) (sym of.2))),
+            (step, next (name.Repairer call) job is at.before at.made at.after at.split (is_of at.made at.mine) ∙ ap (act_after script.geometry (tries_of script) job) at.told ∙ acts ∙ ap (λ s. Act.AtServer s step) (target ∙ ap (λ (j : Job). j.target) (sym of.2))),
             (downs, either says),
           );
         },
@@ -225,15 +221,15 @@ module _ (script : Script) (trace : List Made) (next : StepsAreNext script trace
           either (inl e) = inl (at.answer ∙ e)
           either (inr e) = inr (at.answer ∙ e)
 
-      by : IsToldAway downs (answers_to (name.Repairer i number) trace) → TargetWasAway script trace (name.Repairer i number)
+      by : IsToldAway downs (answers_to (name.Repairer call) trace) → TargetWasAway script trace (name.Repairer call)
       by (inl first) =
-          let two : (seen : Seen) × (back : List Told) × (answers_to (name.Repairer i number) trace ≡ Told.PinnedStripe seen ∷ Told.Missing (found.Away downs) ∷ back) = first_two downs (answers_to (name.Repairer i number) trace) first in
-          at_target (Told.PinnedStripe two.0 ∷ []) (Told.Missing (found.Away downs)) job.target (ServerStep.Has two.0.version) (find (actor.Repairer i) number trace (Told.PinnedStripe two.0 ∷ []) two.1 (Told.Missing (found.Away downs)) refl two.2)
+          let two : (seen : Seen) × (back : List Told) × (answers_to (name.Repairer call) trace ≡ Told.PinnedStripe seen ∷ Told.Missing (found.Away downs) ∷ back) = first_two downs (answers_to (name.Repairer call) trace) first in
+          at_target (Told.PinnedStripe two.0 ∷ []) (Told.Missing (found.Away downs)) job.target (ServerStep.Has two.0.version) (find (actor.Repairer call.repairer) call.number trace (Told.PinnedStripe two.0 ∷ []) two.1 (Told.Missing (found.Away downs)) refl two.2)
           (asks_target job.note.kind (ap (λ (j : Job). j.note.kind) (sym of.2)) script.geometry (tries_of script) job two.0) refl (inr refl)
       by (inr later) =
-          let two : (front : List Told) × (back : List Told) × (answers_to (name.Repairer i number) trace ≡ front ++ Told.Away downs ∷ back) = split_at (answers_to (name.Repairer i number) trace) (Told.Away downs) later in
+          let two : (front : List Told) × (back : List Told) × (answers_to (name.Repairer call) trace ≡ front ++ Told.Away downs ∷ back) = split_at (answers_to (name.Repairer call) trace) (Told.Away downs) later in
           let so : AreTold script.geometry (size_of script) (tries_of script) job two.0 × IsToldNext script.geometry (size_of script) (tries_of script) job (fold (tell script.geometry job) [] two.0) (Told.Away downs) =
           next_at script.geometry (size_of script) (tries_of script) job [] two.0 (Told.Away downs) two.1 (subst (AreTold script.geometry (size_of script) (tries_of script) job) two.2 are_told) in
           let install : (server : ℕ) × (version : ℕ) × (act_after script.geometry (tries_of script) job two.0 ≡ Act.AtServer server (ServerStep.Install version)) = away_installs _ _ downs (act_after script.geometry (tries_of script) job two.0) so.1.0 in
-          at_target two.0 (Told.Away downs) install.0 (ServerStep.Install install.1) (find (actor.Repairer i) number trace two.0 two.1 (Told.Away downs) refl two.2) install.2
+          at_target two.0 (Told.Away downs) install.0 (ServerStep.Install install.1) (find (actor.Repairer call.repairer) call.number trace two.0 two.1 (Told.Away downs) refl two.2) install.2
           ((calls_keep_order script.geometry (size_of script) (tries_of script) job).installs two.0 install.0 install.1 so.0 install.2).1 (inl refl)

@@ -4,20 +4,23 @@ use Rattle.std.proofs.lemmas.List.Elements.{filter-append, All-nil, All-cons, Al
 use Rattle.std.specs.List.{slice_get}
 use Rattle.store_map.specs.PlainMap.{Objects}
 use Rattle.store_map.specs.declared.actor.Actor.{Actor}
+use Rattle.store_map.specs.declared.actor.Actor.TheVariants as actor
 use Rattle.store_map.specs.declared.reply.Reply.{Reply}
 use Rattle.store_map.specs.declared.script.Script.{Script}
-use Rattle.store_map.specs.declared.call_name.CallName.{CallName}
+use Rattle.store_map.specs.declared.call_name.ClientCall.{ClientCall}
+use Rattle.store_map.specs.declared.call_name.CallName.TheVariants as name
 use Rattle.store_map.specs.declared.line.HLine.{HLine}
 use Rattle.store_core.specs.Calls.{Calls}
 use Rattle.store_core.specs.Core.{Core}
 use Rattle.store_core.specs.Directory.{Event, Point}
-use Rattle.store_core.specs.History.{applied, shown_at, name_of, line_of, history_from, history_of, call_of, answered_in}
+use Rattle.store_core.specs.History.{applied, shown_at, client_call, line_of, history_from, history_of, call_of, answered_in}
 use Rattle.store_core.specs.PlaceLaws.{new_point}
 use Rattle.store_core.specs.Shown.{shown}
 use Rattle.store_map.specs.Limits.{size_of}
 use Rattle.history_laws.specs.Trace.{Made}
-use Rattle.history_laws.specs.Moments.{Happened, IsOf}
+use Rattle.history_laws.specs.Moments.{Happened, name_of, IsOf}
 use Rattle.history_laws.specs.PointsInTime.{KeepsTime}
+use Rattle.history_laws.proofs.Naming.{named_client}
 use Rattle.history_laws.proofs.LinePoints.{makes_point, points_in, MadeBy, Makes, PointsThen}
 
 -- ---- two parts of one list
@@ -63,7 +66,7 @@ record FromPoint (start : ℕ) (points : List Point) (line : HLine) : Type 0 whe
   point : Point
   found : slice_get points k ≡ Some point
   is_point : line.point ≡ start + k
-  named : name_of point.actor point.number ≡ Some line.call
+  named : client_call point.actor point.number ≡ Some line.call
   shows : NotReaped point.event
 
 further : (start : ℕ) (first : Point) (points : List Point) (line : HLine) → FromPoint (start + 1) points line → FromPoint start (first ∷ points) line
@@ -74,7 +77,7 @@ module _ (start : ℕ) (point : Point) (points : List Point) where
   abbrev Q : HLine → Type 0
   Q line = FromPoint start (point ∷ points) line
 
-  one : (event : Event) → point.event ≡ event → (name : Option CallName) → name_of point.actor point.number ≡ name → (answered : Bool) (mapped : Reply) → All Q (line_of start name (shown_at event answered mapped))
+  one : (event : Event) → point.event ≡ event → (nm : Option ClientCall) → client_call point.actor point.number ≡ nm → (answered : Bool) (mapped : Reply) → All Q (line_of start nm (shown_at event answered mapped))
   one event is None named answered mapped = All-nil Q
   one (Event.Answer given) is (Some call) named answered mapped =
       All-cons Q _ [] (record { k = 0; point = point; found = refl; is_point = (let same : start ≡ start + 0 = omega arith in same); named = named; shows = subst NotReaped (sym is) tt }) (All-nil Q)
@@ -95,9 +98,9 @@ lines_from : (max : ℕ) (calls : Calls) (answered : Actor → ℕ → Bool) (st
 lines_from max calls answered start objects [] = All-nil (FromPoint start [])
 lines_from max calls answered start objects (point ∷ points) =
     All-append (FromPoint start (point ∷ points))
-    (line_of start (name_of point.actor point.number) (shown_at point.event (answered point.actor point.number) after.1))
+    (line_of start (client_call point.actor point.number) (shown_at point.event (answered point.actor point.number) after.1))
     (history_from max calls answered (start + 1) after.0 points)
-    (one start point points point.event refl (name_of point.actor point.number) refl (answered point.actor point.number) after.1)
+    (one start point points point.event refl (client_call point.actor point.number) refl (answered point.actor point.number) after.1)
     (weaker_all (FromPoint (start + 1) points) (FromPoint start (point ∷ points)) (further start point points) (history_from max calls answered (start + 1) after.0 points) (lines_from max calls answered (start + 1) after.0 points))
   where
     after : Objects × Reply
@@ -106,7 +109,7 @@ lines_from max calls answered start objects (point ∷ points) =
 -- ---- a line's point was made by its call
 module _ (trace : List Made) (points : List Point) (then : PointsThen trace points) where
   abbrev pub IsPointOf : HLine → List Made → Made → Type 0
-  IsPointOf line before made = (new_point made.answer ≡ Some line.point) × (points_in before ≡ line.point) × IsOf line.call made
+  IsPointOf line before made = (new_point made.answer ≡ Some line.point) × (points_in before ≡ line.point) × IsOf (name.Client line.call) made
 
   made_so : (line : HLine) → FromPoint 0 points line → Happened trace (IsPointOf line)
   made_so line from =
@@ -118,10 +121,13 @@ module _ (trace : List Made) (points : List Point) (then : PointsThen trace poin
       place : from.k ≡ line.point
       place = let at : line.point ≡ 0 + from.k = from.is_point in omega (arith, at)
 
-      of_call : (h.made.who ≡ from.point.actor) × (h.made.number ≡ from.point.number) → IsOf line.call h.made
-      of_call same = (λ i. name_of (same.0 i) (same.1 i)) ∙ from.named
+      named : (from.point.actor ≡ actor.Client line.call.client) × (from.point.number ≡ line.call.number)
+      named = named_client from.point.actor from.point.number line.call from.named
 
-      by : (event : Event) → NotReaped event → MadeBy event from.point h.made → IsOf line.call h.made
+      of_call : (h.made.who ≡ from.point.actor) × (h.made.number ≡ from.point.number) → IsOf (name.Client line.call) h.made
+      of_call same = (λ i. name_of (same.0 i) (same.1 i)) ∙ (λ i. name_of (named.0 i) (named.1 i))
+
+      by : (event : Event) → NotReaped event → MadeBy event from.point h.made → IsOf (name.Client line.call) h.made
       by (Event.Answer given) shows same = of_call same
       by Event.Pinned shows same = of_call same
       by Event.Done shows same = of_call same
@@ -139,11 +145,11 @@ module _ (trace : List Made) (points : List Point) (then : PointsThen trace poin
 
   module _ (before after : List Made) (split : trace ≡ before ++ after) where
     -- a point that was made, and not after, is less than those that come
-    early : (line : HLine) → Happened trace (IsPointOf line) → All (λ made. IsOf line.call made → ⊥) after → line.point < points_in before
+    early : (line : HLine) → Happened trace (IsPointOf line) → All (λ made. IsOf (name.Client line.call) made → ⊥) after → line.point < points_in before
     early line h none = by (parted Made h.before (h.made ∷ h.after) before after (sym h.split ∙ split))
       where
         within : (more : List Made) → h.made ∷ h.after ≡ more ++ after → before ≡ h.before ++ more → line.point < points_in before
-        within [] rest longer = absurd (All-head (λ made. IsOf line.call made → ⊥) h.made h.after (subst (All (λ made. IsOf line.call made → ⊥)) (sym rest) none) h.is.2)
+        within [] rest longer = absurd (All-head (λ made. IsOf (name.Client line.call) made → ⊥) h.made h.after (subst (All (λ made. IsOf (name.Client line.call) made → ⊥)) (sym rest) none) h.is.2)
         within (m ∷ more) rest longer =
             let is_made : m ≡ h.made = sym (ap (first_or h.made) rest) in
             let parts : points_in before ≡ points_in h.before + points_in (m ∷ more) = ap points_in longer ∙ points_append h.before (m ∷ more) in
@@ -157,7 +163,7 @@ module _ (trace : List Made) (points : List Point) (then : PointsThen trace poin
 
         late : Longer before h.before after (h.made ∷ h.after) → line.point < points_in before
         late l =
-            absurd (All-contains (λ made. IsOf line.call made → ⊥) after h.made none (there l) h.is.2)
+            absurd (All-contains (λ made. IsOf (name.Client line.call) made → ⊥) after h.made none (there l) h.is.2)
           where
             there : Longer before h.before after (h.made ∷ h.after) → Contains after h.made
             there k = subst (λ (xs : List Made). Contains xs h.made) (sym k.rest) (inside k.more h.made h.after)
@@ -167,7 +173,7 @@ module _ (trace : List Made) (points : List Point) (then : PointsThen trace poin
         by (inr l) = late l
 
     -- and one that comes is no less
-    coming : (line : HLine) → Happened trace (IsPointOf line) → All (λ made. IsOf line.call made → ⊥) before → points_in before ≤ line.point
+    coming : (line : HLine) → Happened trace (IsPointOf line) → All (λ made. IsOf (name.Client line.call) made → ⊥) before → points_in before ≤ line.point
     coming line h none = by (parted Made h.before (h.made ∷ h.after) before after (sym h.split ∙ split))
       where
         within : (more : List Made) → h.made ∷ h.after ≡ more ++ after → before ≡ h.before ++ more → points_in before ≤ line.point
@@ -176,7 +182,7 @@ module _ (trace : List Made) (points : List Point) (then : PointsThen trace poin
             let place : points_in h.before ≡ line.point = h.is.1 in
             omega (arith, parts, place)
         within (m ∷ more) rest longer =
-            absurd (All-contains (λ made. IsOf line.call made → ⊥) before h.made none
+            absurd (All-contains (λ made. IsOf (name.Client line.call) made → ⊥) before h.made none
             (subst (λ (xs : List Made). Contains xs h.made) (sym longer) (subst (λ x. Contains (h.before ++ m ∷ more) x) (sym (ap (first_or h.made) rest)) (inside h.before m more))) h.is.2)
           where
             first_or : Made → List Made → Made

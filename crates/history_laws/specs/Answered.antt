@@ -2,7 +2,8 @@
 use Rattle.std.specs.Prelude.{ℕ, ◌⊎◌, List, All, Contains, ⊤}
 use Rattle.store_map.specs.declared.reply.Reply.{Reply}
 use Rattle.store_map.specs.declared.script.Script.{Script}
-use Rattle.store_map.specs.declared.call_name.CallName.{CallName}
+use Rattle.store_map.specs.declared.call_name.ClientCall.{ClientCall}
+use Rattle.store_map.specs.declared.call_name.RepairCall.{RepairCall}
 use Rattle.store_map.specs.declared.call_name.CallName.TheVariants as name
 use Rattle.store_map.specs.declared.cause.Cause.{Cause}
 use Rattle.store_map.specs.declared.cause.RepairResult.{RepairResult}
@@ -15,15 +16,15 @@ use Rattle.history_laws.specs.Over.{IsOver}
 use Rattle.history_laws.specs.Unhindered.{IsUnhindered, CouldWrite, HasItsPlace}
 
 -- the history has the call with a reply
-abbrev pub IsAnswered : Transcript → CallName → Type 0
+abbrev pub IsAnswered : Transcript → ClientCall → Type 0
 IsAnswered t call = (point : ℕ) × (reply : Reply) × Contains t.history (record { point = point; call = call; reply = shown.Reply reply })
 
 -- the call was refused
-abbrev pub IsRefused : Transcript → CallName → Type 0
+abbrev pub IsRefused : Transcript → ClientCall → Type 0
 IsRefused t call = (cause : Cause) × Contains t.refused (record { call = call; cause = cause })
 
 -- a rebuild has a result of which this holds
-abbrev pub HasResult : (RepairResult → Type 0) → Transcript → CallName → Type 0
+abbrev pub HasResult : (RepairResult → Type 0) → Transcript → RepairCall → Type 0
 HasResult Is t call = (result : RepairResult) × Is result × Contains t.repairs (record { call = call; result = result })
 
 -- the rebuild ended with its chunk at its target
@@ -34,16 +35,16 @@ IsDone what = ⊥
 
 -- each call that is over has a reply, a refusal or a result: a client's one of the first two, a rebuild the last
 pub record TellsEnds (script : Script) (trace : List Made) (t : Transcript) : Type 0 where
-  pub clients : (i number : ℕ) → IsOver script trace (name.Client i number) → IsAnswered t (name.Client i number) ⊎ IsRefused t (name.Client i number)
-  pub repairers : (i number : ℕ) → IsOver script trace (name.Repairer i number) → HasResult (λ what. ⊤) t (name.Repairer i number)
+  pub clients : (call : ClientCall) → IsOver script trace (name.Client call) → IsAnswered t call ⊎ IsRefused t call
+  pub repairers : (call : RepairCall) → IsOver script trace (name.Repairer call) → HasResult (λ what. ⊤) t call
   -- and no other call has one
   pub only : All (IsOver script trace) (answered_calls t)
 
 -- a call that is over and that nothing hindered is answered: a client's has a reply and no refusal, and a rebuild ended with its chunk at its target
 pub record AnswersTheUnhindered (script : Script) (trace : List Made) (t : Transcript) : Type 0 where
   pub clients :
-      (i number : ℕ) → IsOver script trace (name.Client i number) → IsUnhindered script trace (name.Client i number) → CouldWrite script trace (name.Client i number) →
-      IsAnswered t (name.Client i number) × ¬ IsRefused t (name.Client i number)
+      (call : ClientCall) → IsOver script trace (name.Client call) → IsUnhindered script trace (name.Client call) → CouldWrite script trace (name.Client call) →
+      IsAnswered t call × ¬ IsRefused t call
   pub repairers :
-      (i number : ℕ) → IsOver script trace (name.Repairer i number) → IsUnhindered script trace (name.Repairer i number) → HasItsPlace script trace (name.Repairer i number) →
-      HasResult IsDone t (name.Repairer i number)
+      (call : RepairCall) → IsOver script trace (name.Repairer call) → IsUnhindered script trace (name.Repairer call) → HasItsPlace script trace (name.Repairer call) →
+      HasResult IsDone t call

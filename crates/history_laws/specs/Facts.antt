@@ -9,13 +9,12 @@ use Rattle.store_map.specs.declared.placement.Found.TheVariants as found
 use Rattle.store_map.specs.declared.placement.Placement.TheVariants as placement
 use Rattle.store_map.specs.declared.script.Script.{Script}
 use Rattle.store_map.specs.declared.call_name.CallName.{CallName}
-use Rattle.hist_rules.specs.Calls.{rebuild_of}
 use Rattle.store_core.specs.Act.{Act, ServerStep}
 use Rattle.store_core.specs.Lookups.{same_actor}
 use Rattle.store_core.specs.Told.{Told}
 use Rattle.run_laws.specs.CauseLaws.{changes_of}
 use Rattle.run_laws.specs.ToldInSteps.{act_after}
-use Rattle.history_laws.specs.LineCauses.{caller_of, number_of, job_of_call}
+use Rattle.history_laws.specs.LineCauses.{caller_of, number_of, job_of_call, rebuild_named}
 use Rattle.history_laws.specs.Trace.{Made}
 use Rattle.history_laws.specs.Over.{answers_to}
 
@@ -91,7 +90,7 @@ facts_of script trace call =
       changes = length (changes_of (answers_to call trace));
       found = list_all is_found (answers_to call trace);
       current = list_all is_current (answers_to call trace);
-      reached = option_map_or (λ (rebuild : Rebuild). list_all (λ (made : Made). is_reached rebuild.server made.act made.answer) (steps_of call trace)) (rebuild_of script call) true;
+      reached = option_map_or (λ (rebuild : Rebuild). list_all (λ (made : Made). is_reached rebuild.server made.act made.answer) (steps_of call trace)) (rebuild_named script call) true;
     }
 
 -- of no version more servers than so many

@@ -5,7 +5,6 @@ use Rattle.store_map.specs.declared.call_name.CallName.{CallName}
 use Rattle.store_map.specs.declared.transcript.Transcript.{Transcript}
 use Rattle.hist_rules.specs.declared.verdict.Verdict.TheVariants.{Legal}
 use Rattle.hist_rules.specs.IsHistory.{IsHistory}
-use Rattle.hist_rules.specs.LineLaws.{IsOfClients}
 use Rattle.hist_rules.specs.Verdict.{verdict_of}
 use Rattle.history_laws.specs.LineCauses.{LinesAreCaused}
 use Rattle.history_laws.specs.LossesInTime.{HasLossesInTime}
@@ -19,8 +18,6 @@ use Rattle.history_laws.specs.Answered.{TellsEnds, AnswersTheUnhindered}
 pub record IsFaithful (script : Script) (steps : List Made) (t : Transcript) : Type 0 where
   -- one history of a plain map: each answered call stands in it once, in its caller's order, with the map's reply
   pub history : IsHistory script t
-  -- of clients' calls alone, so that a reply of the map stands beside each of its lines
-  pub clients : IsOfClients t
   -- so the checker finds no fault in it
   pub legal : verdict_of script t ≡ Legal
   -- of two calls in it the one that was over before the other began has the smaller point, and the points that a refusal or a rebuild's result names as newer came while its call ran

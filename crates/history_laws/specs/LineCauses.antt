@@ -1,15 +1,17 @@
 -- Each refusal and each rebuild's result that a run shows is the outcome of its call after what the run told it, which causes it.
-use Rattle.std.specs.Prelude.{◌≡◌, ℕ, Bool, true, false, ◌&&◌, nat_eq, List, [], ◌∷◌, ◌++◌, Option, Some, All, option_and_then}
+use Rattle.std.specs.Prelude.{◌≡◌, ℕ, Bool, true, false, ◌&&◌, nat_eq, List, [], ◌∷◌, ◌++◌, Option, None, Some, All, option_and_then}
 use Rattle.std.specs.List.{slice_get}
 use Rattle.store_map.specs.Limits.{size_of, tries_of}
 use Rattle.store_map.specs.declared.actor.Actor.{Actor}
 use Rattle.store_map.specs.declared.actor.Actor.TheVariants as actor
+use Rattle.store_map.specs.declared.call.Rebuild.{Rebuild}
 use Rattle.store_map.specs.declared.script.Script.{Script}
 use Rattle.store_map.specs.declared.call_name.CallName.{CallName}
 use Rattle.store_map.specs.declared.call_name.CallName.TheVariants as name
 use Rattle.store_map.specs.declared.line.XLine.{XLine}
 use Rattle.store_map.specs.declared.line.RLine.{RLine}
 use Rattle.store_map.specs.declared.transcript.Transcript.{Transcript}
+use Rattle.hist_rules.specs.Calls.{rebuild_of}
 use Rattle.store_core.specs.Act.{Act, Outcome}
 use Rattle.store_core.specs.Lookups.{same_actor}
 use Rattle.store_core.specs.NextAct.{Job}
@@ -36,17 +38,22 @@ told_to who number (made ∷ trace) = told_if (same_actor who made.who && nat_eq
 
 -- whose call a name is, and which
 abbrev pub caller_of : CallName → Actor
-caller_of (name.Client i number) = actor.Client i
-caller_of (name.Repairer i number) = actor.Repairer i
+caller_of (name.Client call) = actor.Client call.client
+caller_of (name.Repairer call) = actor.Repairer call.repairer
 
 abbrev pub number_of : CallName → ℕ
-number_of (name.Client i number) = number
-number_of (name.Repairer i number) = number
+number_of (name.Client call) = call.number
+number_of (name.Repairer call) = call.number
 
 -- it, as what its actor has to do
 abbrev pub job_of_call : Script → CallName → Option Job
-job_of_call script (name.Client i number) = option_and_then (λ (work : Work). slice_get work.jobs number) (slice_get (client_work script) i)
-job_of_call script (name.Repairer i number) = option_and_then (λ (work : Work). slice_get work.jobs number) (slice_get (repairer_work script) i)
+job_of_call script (name.Client call) = option_and_then (λ (work : Work). slice_get work.jobs call.number) (slice_get (client_work script) call.client)
+job_of_call script (name.Repairer call) = option_and_then (λ (work : Work). slice_get work.jobs call.number) (slice_get (repairer_work script) call.repairer)
+
+-- a repairer's call, as the script has it; a client's is no rebuild
+abbrev pub rebuild_named : Script → CallName → Option Rebuild
+rebuild_named script (name.Client call) = None
+rebuild_named script (name.Repairer call) = rebuild_of script call
 
 -- after what the call was told, which it can be told, it ends with an outcome that this causes
 pub record WasCaused (script : Script) (trace : List Made) (call : CallName) (Shows : Outcome → Type 0) : Type 0 where
@@ -60,5 +67,5 @@ pub record WasCaused (script : Script) (trace : List Made) (call : CallName) (Sh
 
 -- so it is of each line
 pub record LinesAreCaused (script : Script) (trace : List Made) (t : Transcript) : Type 0 where
-  pub refused : All (λ (line : XLine). WasCaused script trace line.call (λ outcome. cause_of outcome ≡ Some line.cause)) t.refused
-  pub repairs : All (λ (line : RLine). WasCaused script trace line.call (λ outcome. result_of outcome ≡ Some line.result)) t.repairs
+  pub refused : All (λ (line : XLine). WasCaused script trace (name.Client line.call) (λ outcome. cause_of outcome ≡ Some line.cause)) t.refused
+  pub repairs : All (λ (line : RLine). WasCaused script trace (name.Repairer line.call) (λ outcome. result_of outcome ≡ Some line.result)) t.repairs

@@ -2,6 +2,7 @@
 use Rattle.std.specs.Prelude.{◌≡◌, ◌⊎◌, ℕ, List, All, ⊤}
 use Rattle.store_map.specs.declared.placement.Found.TheVariants as found
 use Rattle.store_map.specs.declared.call_name.CallName.{CallName}
+use Rattle.store_map.specs.declared.call_name.CallName.TheVariants as name
 use Rattle.store_map.specs.declared.cause.Triple.{Triple}
 use Rattle.store_map.specs.declared.cause.Cause.{Cause}
 use Rattle.store_map.specs.declared.cause.Cause.TheVariants as cause
@@ -42,5 +43,5 @@ ResultNamesLosses trace call _ = ⊤
 
 -- the losses of a transcript are in time
 pub record HasLossesInTime (trace : List Made) (t : Transcript) : Type 0 where
-  pub refused : All (λ (line : XLine). NamesLosses trace line.call line.cause) t.refused
-  pub repairs : All (λ (line : RLine). ResultNamesLosses trace line.call line.result) t.repairs
+  pub refused : All (λ (line : XLine). NamesLosses trace (name.Client line.call) line.cause) t.refused
+  pub repairs : All (λ (line : RLine). ResultNamesLosses trace (name.Repairer line.call) line.result) t.repairs

@@ -1,12 +1,14 @@
 -- Words on the moments of a trace.
-use Rattle.std.specs.Prelude.{◌≡◌, ℕ, ◌-◌, ◌^◌, min, Bool, false, nat_eq, List, ◌∷◌, ◌++◌, length, filter, Some}
+use Rattle.std.specs.Prelude.{◌≡◌, ℕ, ◌-◌, ◌^◌, min, Bool, false, nat_eq, List, ◌∷◌, ◌++◌, length, filter, Option, None, Some}
+use Rattle.store_map.specs.declared.actor.Actor.{Actor}
+use Rattle.store_map.specs.declared.actor.Actor.TheVariants as actor
 use Rattle.store_map.specs.declared.placement.Found.{Found}
 use Rattle.store_map.specs.declared.placement.Found.TheVariants as found
 use Rattle.store_map.specs.declared.placement.Placement.{Placement}
 use Rattle.store_map.specs.declared.placement.Placement.TheVariants as placement
 use Rattle.store_map.specs.declared.call_name.CallName.{CallName}
 use Rattle.store_core.specs.Act.{Act, ServerStep}
-use Rattle.store_core.specs.History.{name_of}
+use Rattle.store_core.specs.Shown.{client_name, repairer_name}
 use Rattle.history_laws.specs.Trace.{Made}
 
 -- at some moment a step was made of which this holds, by what was made before it
@@ -16,6 +18,12 @@ pub record Happened (trace : List Made) (Is : List Made → Made → Type 0) : T
   pub after : List Made
   pub split : trace ≡ before ++ made ∷ after
   pub is : Is before made
+
+-- how an actor's call is named; the sweeper and the operator have none
+abbrev pub name_of : Actor → ℕ → Option CallName
+name_of (actor.Client i) number = Some (client_name i number)
+name_of (actor.Repairer i) number = Some (repairer_name i number)
+name_of who number = None
 
 -- a step of a call
 abbrev pub IsOf : CallName → Made → Type 0

@@ -2,6 +2,7 @@
 use Rattle.std.specs.Prelude.{◌≡◌, ℕ, ◌<◌, List, ◌++◌, Some, All, Contains, ⊤}
 use Rattle.store_map.specs.declared.actor.Actor.{Actor}
 use Rattle.store_map.specs.declared.call_name.CallName.{CallName}
+use Rattle.store_map.specs.declared.call_name.CallName.TheVariants as name
 use Rattle.store_map.specs.declared.cause.Cause.{Cause}
 use Rattle.store_map.specs.declared.cause.Cause.TheVariants as cause
 use Rattle.store_map.specs.declared.cause.RepairResult.{RepairResult}
@@ -11,10 +12,9 @@ use Rattle.store_map.specs.declared.line.XLine.{XLine}
 use Rattle.store_map.specs.declared.line.RLine.{RLine}
 use Rattle.store_map.specs.declared.transcript.Transcript.{Transcript}
 use Rattle.store_core.specs.Act.{Act, DirectoryStep}
-use Rattle.store_core.specs.History.{name_of}
 use Rattle.store_core.specs.PlaceLaws.{new_point}
 use Rattle.history_laws.specs.Trace.{Made}
-use Rattle.history_laws.specs.Moments.{Happened, IsOf}
+use Rattle.history_laws.specs.Moments.{Happened, name_of, IsOf}
 
 -- a new point comes after the call's first step and before its last, by a step of which this holds
 abbrev pub ComesWithin : List Made → CallName → (Made → Type 0) → ℕ → Type 0
@@ -46,10 +46,10 @@ ResultNamesPoints trace call _ = ⊤
 abbrev pub KeepsTime : List Made → Transcript → Type 0
 KeepsTime trace t =
     (line later : HLine) → Contains t.history line → Contains t.history later → (before after : List Made) → trace ≡ before ++ after →
-    All (λ made. IsOf line.call made → ⊥) after → All (λ made. IsOf later.call made → ⊥) before → line.point < later.point
+    All (λ made. IsOf (name.Client line.call) made → ⊥) after → All (λ made. IsOf (name.Client later.call) made → ⊥) before → line.point < later.point
 
 -- the points of a transcript are in time
 pub record HasPointsInTime (trace : List Made) (t : Transcript) : Type 0 where
   pub order : KeepsTime trace t
-  pub refused : All (λ (line : XLine). NamesPoints trace line.call line.cause) t.refused
-  pub repairs : All (λ (line : RLine). ResultNamesPoints trace line.call line.result) t.repairs
+  pub refused : All (λ (line : XLine). NamesPoints trace (name.Client line.call) line.cause) t.refused
+  pub repairs : All (λ (line : RLine). ResultNamesPoints trace (name.Repairer line.call) line.result) t.repairs

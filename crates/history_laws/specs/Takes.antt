@@ -8,7 +8,10 @@ use Rattle.store_map.specs.declared.call.Call.{Call}
 use Rattle.store_map.specs.declared.call.Rebuild.{Rebuild}
 use Rattle.store_map.specs.declared.reply.Reply.TheVariants as reply
 use Rattle.store_map.specs.declared.script.Script.{Script}
+use Rattle.store_map.specs.declared.call_name.ClientCall.{ClientCall}
+use Rattle.store_map.specs.declared.call_name.RepairCall.{RepairCall}
 use Rattle.store_map.specs.declared.call_name.CallName.{CallName}
+use Rattle.store_map.specs.declared.call_name.CallName.TheVariants as name
 use Rattle.store_map.specs.declared.cause.RepairResult.TheVariants as result
 use Rattle.store_map.specs.declared.line.GLine.{GLine}
 use Rattle.store_map.specs.declared.shown.Shown.TheVariants as shown
@@ -47,13 +50,13 @@ pub record TakesLeast (script : Script) (trace : List Made) (t : Transcript) : T
       lines_of_takes t call ≡ take_line call (taken_by script.geometry (tries_of script) job (answers_to call trace))
   -- a rebuild that is rebuilt and found a chunk missing once took nothing of its target, and of each other server one part in as many as the grid has rows
   pub rebuilds :
-      (call : CallName) (rebuild : Rebuild) → rebuild_of script call ≡ Some rebuild → Contains t.repairs (record { call = call; result = result.Rebuilt }) →
-      missing_count (answers_to call trace) ≡ 1 → TookLeast script.geometry rebuild.server (takes_shown t call)
+      (call : RepairCall) (rebuild : Rebuild) → rebuild_of script call ≡ Some rebuild → Contains t.repairs (record { call = call; result = result.Rebuilt }) →
+      missing_count (answers_to (name.Repairer call) trace) ≡ 1 → TookLeast script.geometry rebuild.server (takes_shown t (name.Repairer call))
   -- a get or a read that has its bytes and found no chunk missing took just the subchunks that have them
   pub reads :
-      (call : CallName) (asked : Call) → call_of script call ≡ Some asked → (point : ℕ) (bytes : List ℕ) →
+      (call : ClientCall) (asked : Call) → call_of script call ≡ Some asked → (point : ℕ) (bytes : List ℕ) →
       Contains t.history (record { point = point; call = call; reply = shown.Reply (reply.Bytes bytes) }) →
-      missing_count (answers_to call trace) ≡ 0 → TookRange script.geometry (note_of asked) (answers_to call trace) (takes_shown t call)
+      missing_count (answers_to (name.Client call) trace) ≡ 0 → TookRange script.geometry (note_of asked) (answers_to (name.Client call) trace) (takes_shown t (name.Client call))
 
 -- so it is of every run of a valid script, whatever was wanting of memory
 abbrev pub RunsTakeLeast : Type 0

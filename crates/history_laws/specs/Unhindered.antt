@@ -7,10 +7,10 @@ use Rattle.store_map.specs.declared.placement.Found.TheVariants as found
 use Rattle.store_map.specs.declared.placement.Placement.TheVariants as placement
 use Rattle.store_map.specs.declared.script.Script.{Script}
 use Rattle.store_map.specs.declared.call_name.CallName.{CallName}
-use Rattle.hist_rules.specs.Calls.{rebuild_of}
 use Rattle.store_core.specs.Act.{Act, ServerStep}
 use Rattle.store_core.specs.Told.{Told}
 use Rattle.run_laws.specs.CauseLaws.{changes_of}
+use Rattle.history_laws.specs.LineCauses.{rebuild_named}
 use Rattle.history_laws.specs.LostChunks.{AsksFor}
 use Rattle.history_laws.specs.Moments.{Happened, IsOf}
 use Rattle.history_laws.specs.Trace.{Made}
@@ -49,7 +49,7 @@ pub record CouldWrite (script : Script) (trace : List Made) (call : CallName) : 
 -- the target of a rebuild told it that it was away, when it was asked for its chunk or when the chunk came
 abbrev pub TargetWasAway : Script → List Made → CallName → Type 0
 TargetWasAway script trace call =
-    (rebuild : Rebuild) × (rebuild_of script call ≡ Some rebuild) ×
+    (rebuild : Rebuild) × (rebuild_named script call ≡ Some rebuild) ×
     Happened trace
     (λ before made. IsOf call made × ((step : ServerStep) × (made.act ≡ Act.AtServer rebuild.server step)) × ((downs : ℕ) × ((made.answer ≡ Told.Away downs) ⊎ (made.answer ≡ Told.Missing (found.Away downs)))))
 

@@ -1,7 +1,7 @@
 use Rattle.std.proofs.Common.{refl}
 use Rattle.clay_grid.specs.Layers.{digits_of}
 use Rattle.store_map.specs.declared.call_name.CallName.{CallName}
-use Rattle.store_map.specs.declared.call_name.CallName.TheVariants.{Repairer}
+use Rattle.store_core.specs.Shown.{repairer_name}
 use Rattle.store_core.specs.RowsRebuilds.{rebuilt_then_here}
 use Rattle.history_laws.specs.Facts.{facts_of}
 use Rattle.history_laws.specs.FactsLaw.{AreFactsOf}
@@ -14,8 +14,8 @@ exact call = facts_exact rebuilt_then_here.script (row_trace rebuilt_then_here) 
 
 pub returns-clause-lost : goal.returns-clause-lost
 unfolding digits_of
-returns-clause-lost c = record { over = (exact (Repairer 0 0)).over.0 refl; free = (exact (Repairer 0 0)).free.0 refl; place = (exact (Repairer 0 0)).place.0 refl }
+returns-clause-lost c = record { over = (exact (repairer_name 0 0)).over.0 refl; free = (exact (repairer_name 0 0)).free.0 refl; place = (exact (repairer_name 0 0)).place.0 refl }
 
 pub returns-clause-there : goal.returns-clause-there
 unfolding digits_of
-returns-clause-there c = record { over = (exact (Repairer 0 1)).over.0 refl; free = (exact (Repairer 0 1)).free.0 refl; place = (exact (Repairer 0 1)).place.0 refl }
+returns-clause-there c = record { over = (exact (repairer_name 0 1)).over.0 refl; free = (exact (repairer_name 0 1)).free.0 refl; place = (exact (repairer_name 0 1)).place.0 refl }

@@ -5,12 +5,13 @@ use Rattle.clay_grid.specs.Layers.{digits_of}
 use Rattle.store_map.specs.declared.call.Call.TheVariants.{ReadAt}
 use Rattle.store_map.specs.declared.placement.Placement.{Placement}
 use Rattle.store_map.specs.declared.placement.Placement.TheVariants.{At}
-use Rattle.store_map.specs.declared.call_name.CallName.TheVariants.{Client, Repairer}
 use Rattle.store_map.specs.declared.cause.RepairResult.TheVariants.{Rebuilt}
 use Rattle.store_core.specs.Note.{note_of}
 use Rattle.store_core.specs.Read.{parts_of}
+use Rattle.store_core.specs.Shown.{client_name}
 use Rattle.store_core.specs.Told.{Told, Seen}
 use Rattle.run_laws.proofs.SoundLists.{contains_at}
+use Rattle.store_core.specs.RowLines.{repair}
 use Rattle.store_core.specs.RowsCalls.{each_refusal}
 use Rattle.store_core.specs.RowsRebuilds.{rebuilt_then_here}
 use Rattle.history_laws.specs.LeastTakes.{TookRange}
@@ -34,7 +35,7 @@ unfolding digits_of
 returns-clause-rebuild c =
     record {
       shows = refl;
-      rebuilt = contains_at rebuilt_then_here.transcript.repairs 0 (record { call = Repairer 0 0; result = Rebuilt }) refl;
+      rebuilt = contains_at rebuilt_then_here.transcript.repairs 0 (record { call = repair 0 0; result = Rebuilt }) refl;
       alone = refl;
       told = record { none = refl; others = others_took };
       refused = λ h. let whole : 8 ≡ 4 = h.others 0 (omega arith) (λ same. absurd (omega (arith, same))) in omega (arith, whole);
@@ -46,7 +47,7 @@ pin_of (Told.Pinned point size stripes) = Some (point, (size, stripes))
 pin_of answer = None
 
 abbrev read_answers : List Told
-read_answers = answers_to (Client 0 7) (row_trace each_refusal)
+read_answers = answers_to (client_name 0 7) (row_trace each_refusal)
 
 abbrev row : List Placement
 row = At 0 ∷ At 0 ∷ At 0 ∷ At 0 ∷ []
@@ -76,7 +77,7 @@ bytes_took (suc (suc zero)) low = refl
 bytes_took (suc (suc (suc zero))) low = refl
 bytes_took (suc (suc (suc (suc n)))) low = absurd (omega (arith, low))
 
-not_whole : TookRange each_refusal.script.geometry (note_of (ReadAt (codes "a") 7 100)) (answers_to (Client 0 7) (row_trace each_refusal)) (4 ∷ 4 ∷ 0 ∷ 0 ∷ []) → ⊥
+not_whole : TookRange each_refusal.script.geometry (note_of (ReadAt (codes "a") 7 100)) (answers_to (client_name 0 7) (row_trace each_refusal)) (4 ∷ 4 ∷ 0 ∷ 0 ∷ []) → ⊥
 unfolding digits_of
 not_whole h =
     let same : pinned ≡ (h.point, (h.size, h.stripes)) =
