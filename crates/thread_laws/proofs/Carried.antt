@@ -1,30 +1,25 @@
 -- What is a history of a script with another schedule is one of the script, where that schedule has its lines.
-use Rattle.std.proofs.Common.{◌≡◌, ℕ, ◌+◌, ◌<◌, ◌≤◌, false, nat_eq, length, ◌&&◌, List, [], ◌∷◌, ◌++◌, map, filter, filter_map, count_by, Option, None, Some, option_and_then, IfSome, All, IsTrue, refl, ap, subst, ◌∙◌}
-use Rattle.std.specs.List.{list_any, zip}
-use Rattle.std.specs.Option.{option_map_or}
+use Rattle.std.proofs.Common.{◌≡◌, ℕ, ◌+◌, ◌<◌, ◌≤◌, List, [], ◌∷◌, ◌++◌, map, filter, count_by, Option, None, Some, option_and_then, IfSome, All, refl, subst, ◌∙◌}
 use Rattle.std.proofs.lemmas.List.Elements.{All-weaker}
-use Rattle.store_map.specs.Limits.{size_of}
-use Rattle.store_map.specs.History.{replies_of, map_after}
 use Rattle.store_map.specs.declared.actor.Token.{Token}
-use Rattle.store_map.specs.declared.call.Call.{Call}
 use Rattle.store_map.specs.declared.call.Rebuild.{Rebuild}
 use Rattle.store_map.specs.declared.script.Script.{Script}
+use Rattle.store_map.specs.declared.call_name.ClientCall.{ClientCall}
 use Rattle.store_map.specs.declared.call_name.CallName.{CallName}
 use Rattle.store_map.specs.declared.call_name.CallName.TheVariants as name
 use Rattle.store_map.specs.declared.cause.Cause.{Cause}
 use Rattle.store_map.specs.declared.cause.Cause.TheVariants as cause
 use Rattle.store_map.specs.declared.cause.RepairResult.{RepairResult}
 use Rattle.store_map.specs.declared.cause.RepairResult.TheVariants as result
-use Rattle.store_map.specs.declared.line.HLine.{HLine}
 use Rattle.store_map.specs.declared.line.XLine.{XLine}
 use Rattle.store_map.specs.declared.line.RLine.{RLine}
 use Rattle.store_map.specs.declared.transcript.Transcript.{Transcript}
 use Rattle.hist_rules.specs.First.{AllAfter}
 use Rattle.hist_rules.specs.Calls.{number_of, same_actor, calls_of, call_of, rebuild_of}
 use Rattle.hist_rules.specs.Counts.{reaps}
-use Rattle.hist_rules.specs.Named.{is_effect, changes_name, is_change_point, listed_calls}
+use Rattle.hist_rules.specs.Named.{listed_calls}
 use Rattle.hist_rules.specs.CallOrder.{KeepsCallOrder}
-use Rattle.hist_rules.specs.MapReplies.{ShowsReply, HasMapReplies}
+use Rattle.hist_rules.specs.MapReplies.{HasMapReplies}
 use Rattle.hist_rules.specs.GivenUp.{reaped_calls}
 use Rattle.hist_rules.specs.GivenUpOrLost.{GivenUp, IsRace, IsLoser, LostRace, LostRaces}
 use Rattle.hist_rules.specs.LostRaces.{written_name}
@@ -45,19 +40,8 @@ module _ (script : Script) (tokens : List Token) where
 
   -- ---- calls are the script's, whatever its schedule
   calls_one : (call : CallName) → calls_of other call ≡ calls_of script call
-  calls_one (name.Client i number) = refl
-  calls_one (name.Repairer i number) = refl
-
-  call_one : (call : CallName) → call_of other call ≡ call_of script call
-  call_one (name.Client i number) = refl
-  call_one (name.Repairer i number) = refl
-
-  rebuild_one : (call : CallName) → rebuild_of other call ≡ rebuild_of script call
-  rebuild_one (name.Client i number) = refl
-  rebuild_one (name.Repairer i number) = refl
-
-  call_ofs : call_of other ≡ call_of script
-  call_ofs = λ i call. call_one call i
+  calls_one (name.Client call) = refl
+  calls_one (name.Repairer call) = refl
 
   -- ---- so what doesn't count lines is carried over
   pub order_carried : (t : Transcript) → KeepsCallOrder other t → KeepsCallOrder script t
@@ -71,29 +55,20 @@ module _ (script : Script) (tokens : List Token) where
         takes = h.takes;
       }
 
-  abbrev RepliesBy : Transcript → (CallName → Option Call) → Type 0
-  RepliesBy t calls = All (λ line. ShowsReply (calls line.0.call) line.1 line.0.reply) (zip t.history (replies_of (size_of script) (filter_map (λ (line : HLine). calls line.call) t.history)))
-
-  abbrev ObjectsBy : Transcript → (CallName → Option Call) → Type 0
-  ObjectsBy t calls = t.objects ≡ map (λ object. record { name = object.0; length = length object.1 }) (map_after (size_of script) (filter_map (λ (line : HLine). calls line.call) t.history))
-
   pub replies_carried : (t : Transcript) → HasMapReplies other t → HasMapReplies script t
-  replies_carried t h = record { replies = subst (RepliesBy t) call_ofs h.replies; objects = subst (ObjectsBy t) call_ofs h.objects }
+  replies_carried t h = record { replies = h.replies; objects = h.objects }
 
   module _ (t : Transcript) where
-    change_one : (object : List ℕ) (point : ℕ) → is_change_point other t object point ≡ is_change_point script t object point
-    change_one object point = ap (λ (calls : CallName → Option Call). list_any (λ (line : HLine). nat_eq line.point point && (is_effect line.reply && option_map_or (changes_name object) (calls line.call) false)) t.history) call_ofs
-
     race : (object : List ℕ) (before : List (ℕ × ℕ)) (pair : ℕ × ℕ) → IsRace other t object before pair → IsRace script t object before pair
     race object before pair h =
-        record { later = h.later; order = h.order; looked_at = subst IsTrue (change_one object pair.0) h.looked_at; newer = subst IsTrue (change_one object pair.1) h.newer }
+        record { later = h.later; order = h.order; looked_at = h.looked_at; newer = h.newer }
 
     loser : (pairs : List (ℕ × ℕ)) (object : Option (List ℕ)) → IsLoser other t pairs object → IsLoser script t pairs object
     loser pairs None h = h
     loser pairs (Some object) h = record { count = h.count; races = after_weaker (IsRace other t object) (IsRace script t object) (race object) [] pairs h.races }
 
-    lost : (call : CallName) (why : Cause) → LostRace other t call why → LostRace script t call why
-    lost call (cause.Contended pairs) h = subst (λ (c : Option Call). IsLoser script t pairs (option_and_then written_name c)) (call_one call) (loser pairs (option_and_then written_name (call_of other call)) h)
+    lost : (call : ClientCall) (why : Cause) → LostRace other t call why → LostRace script t call why
+    lost call (cause.Contended pairs) h = loser pairs (option_and_then written_name (call_of script call)) h
     lost call (cause.Unavailable stripe missing) h = tt
     lost call (cause.Reaped point) h = tt
     lost call cause.NoMemory h = tt
@@ -102,7 +77,7 @@ module _ (script : Script) (tokens : List Token) where
     races_carried h = All-weaker (λ (line : XLine). LostRace other t line.call line.cause) (λ line. LostRace script t line.call line.cause) (λ line. lost line.call line.cause) t.refused h
 
     named : (what : RepairResult) (rebuild : Rebuild) → NamesChange other t what rebuild → NamesChange script t what rebuild
-    named (result.Superseded newer) rebuild h = subst IsTrue (change_one rebuild.name newer) h
+    named (result.Superseded newer) rebuild h = h
     named (result.Unavailable stripe missing) rebuild h = tt
     named (result.Away told) rebuild h = tt
     named result.Rebuilt rebuild h = tt
@@ -118,7 +93,7 @@ module _ (script : Script) (tokens : List Token) where
     pub changes_carried : All (λ (line : RLine). IfSome (rebuild_of other line.call) (NamesChange other t line.result)) t.repairs → All (λ (line : RLine). IfSome (rebuild_of script line.call) (NamesChange script t line.result)) t.repairs
     changes_carried h =
         All-weaker (λ (line : RLine). IfSome (rebuild_of other line.call) (NamesChange other t line.result)) (λ line. IfSome (rebuild_of script line.call) (NamesChange script t line.result))
-        (λ line k. subst (λ (r : Option Rebuild). IfSome r (NamesChange script t line.result)) (rebuild_one line.call) (named_if line.result (rebuild_of other line.call) k)) t.repairs h
+        (λ line k. named_if line.result (rebuild_of script line.call) k) t.repairs h
 
   -- ---- and what counts them, by the lines
   module _ (lines : filter is_line tokens ≡ lines_of script) where

@@ -92,8 +92,8 @@ module _ (script : Script) (tokens : List Token) (lines : filter is_line tokens 
   same_downs server = same_count (is_down_of server) (down_lines server)
 
   pub same_reaps : (call : CallName) → reaps (scheduled script tokens) call ≡ reaps script call
-  same_reaps (name.Client i number) = same_count (is_reap_of_client i) (client_lines i)
-  same_reaps (name.Repairer i number) = same_count (is_reap_of_repairer i) (repairer_lines i)
+  same_reaps (name.Client call) = same_count (is_reap_of_client call.client) (client_lines call.client)
+  same_reaps (name.Repairer call) = same_count (is_reap_of_repairer call.repairer) (repairer_lines call.repairer)
 
   pub few_in_lines : IsValid script → HasFewWipes tokens
   few_in_lines valid server = subst (λ (n : ℕ). n < 2 ^ 64) (sym (same_wipes server)) (few_wipes script valid server)

@@ -1,10 +1,10 @@
 -- A small threaded run, whole: two clients each ask for an object that isn't there, while the operator empties a server.
 use Rattle.std.specs.Prelude.{ℕ, [], ◌∷◌}
 use Rattle.store_map.specs.declared.reply.Reply.TheVariants as reply
-use Rattle.store_map.specs.declared.call_name.CallName.TheVariants as name
 use Rattle.store_map.specs.declared.line.TLine.{TLine}
 use Rattle.store_map.specs.declared.shown.Shown.TheVariants as shown
 use Rattle.store_map.specs.declared.transcript.Transcript.{Transcript}
+use Rattle.store_core.specs.RowLines.{client}
 use Rattle.thread_laws.specs.StatsExample.{two_stats}
 use Rattle.thread_laws.specs.Run.{IsRun}
 
@@ -17,8 +17,8 @@ abbrev pub stats_shown : Transcript
 stats_shown =
     record {
       history =
-          record { point = 0; call = name.Client 0 0; reply = shown.Reply reply.NoSuch }
-          ∷ record { point = 1; call = name.Client 1 0; reply = shown.Reply reply.NoSuch } ∷ [];
+          record { point = 0; call = client 0 0; reply = shown.Reply reply.NoSuch }
+          ∷ record { point = 1; call = client 1 0; reply = shown.Reply reply.NoSuch } ∷ [];
       refused = [];
       repairs = [];
       unanswered = [];

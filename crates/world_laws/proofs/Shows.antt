@@ -8,12 +8,12 @@ use Rattle.store_map.specs.declared.actor.Actor.{Actor}
 use Rattle.store_map.specs.declared.actor.Actor.TheVariants as actor
 use Rattle.store_map.specs.declared.script.Script.{Script}
 use Rattle.store_map.specs.declared.call_name.CallName.{CallName}
-use Rattle.store_map.specs.declared.call_name.CallName.TheVariants as name
 use Rattle.store_core.specs.Core.{Core}
 use Rattle.store_core.specs.History.{call_of, answered_in, is_answer, history_from}
 use Rattle.store_core.specs.NextAct.{Job}
 use Rattle.store_core.specs.Outcomes.{cause_of, result_of}
-use Rattle.store_core.specs.Shown.{lines_of_ended, lines_of_actors, refused_line, repair_line, unanswered_line, take_line, take_lines, shown}
+use Rattle.store_core.specs.RowLines.{client, repair}
+use Rattle.store_core.specs.Shown.{lines_of_ended, lines_of_actors, refused_line, repair_line, unanswered_line, take_line, take_lines, shown, client_name, repairer_name}
 use Rattle.store_core.specs.Work.{Ended, Work, Calling, client_work, repairer_work}
 use Rattle.world_laws.specs.World.{DoingOf, ActorOf, WorldOf}
 use Rattle.world_laws.specs.Known.{calling_by, calling_of, core_of}
@@ -70,20 +70,20 @@ module _ (script : Script) where
         record {
           history = history_from (size_of script) (call_of script) (λ who number. answered who number k) 0 [] (sym stands.directory k).points;
           refused =
-              same_lines (λ i. lines_of_ended (λ number ended. refused_line (name.Client i number) (cause_of ended.outcome)))
-              (λ i known calling same. ap (λ (l : List Ended). flat_map (λ (entry : ℕ × Ended). refused_line (name.Client i entry.0) (cause_of entry.1.outcome)) (enumerate_from 0 l)) same.ended)
+              same_lines (λ i. lines_of_ended (λ number ended. refused_line (client i number) (cause_of ended.outcome)))
+              (λ i known calling same. ap (λ (l : List Ended). flat_map (λ (entry : ℕ × Ended). refused_line (client i entry.0) (cause_of entry.1.outcome)) (enumerate_from 0 l)) same.ended)
               (client_work script) core.clients w.clients stands.clients k;
           repairs =
-              same_lines (λ i. lines_of_ended (λ number ended. repair_line (name.Repairer i number) (result_of ended.outcome)))
-              (λ i known calling same. ap (λ (l : List Ended). flat_map (λ (entry : ℕ × Ended). repair_line (name.Repairer i entry.0) (result_of entry.1.outcome)) (enumerate_from 0 l)) same.ended)
+              same_lines (λ i. lines_of_ended (λ number ended. repair_line (repair i number) (result_of ended.outcome)))
+              (λ i known calling same. ap (λ (l : List Ended). flat_map (λ (entry : ℕ × Ended). repair_line (repair i entry.0) (result_of entry.1.outcome)) (enumerate_from 0 l)) same.ended)
               (repairer_work script) core.repairers w.repairers stands.repairers k;
           unanswered =
-              same_lines (λ i. unanswered_line (name.Client i)) (unanswered_same name.Client) (client_work script) core.clients w.clients stands.clients k
-              ++ same_lines (λ i. unanswered_line (name.Repairer i)) (unanswered_same name.Repairer) (repairer_work script) core.repairers w.repairers stands.repairers k;
+              same_lines (λ i. unanswered_line (client_name i)) (unanswered_same client_name) (client_work script) core.clients w.clients stands.clients k
+              ++ same_lines (λ i. unanswered_line (repairer_name i)) (unanswered_same repairer_name) (repairer_work script) core.repairers w.repairers stands.repairers k;
           objects = map (λ object. record { name = object.name; length = object.length }) (sym stands.directory k).objects;
           takes =
-              same_lines (λ i. take_lines (name.Client i)) (takes_same name.Client) (client_work script) core.clients w.clients stands.clients k
-              ++ same_lines (λ i. take_lines (name.Repairer i)) (takes_same name.Repairer) (repairer_work script) core.repairers w.repairers stands.repairers k;
+              same_lines (λ i. take_lines (client_name i)) (takes_same client_name) (client_work script) core.clients w.clients stands.clients k
+              ++ same_lines (λ i. take_lines (repairer_name i)) (takes_same repairer_name) (repairer_work script) core.repairers w.repairers stands.repairers k;
           servers = map (λ entry. record { server = entry.0; taken = entry.1.taken; held = length entry.1.held; epoch = entry.1.epoch }) (enumerate_from 0 (sym stands.servers k));
         }
       where
