@@ -4,7 +4,9 @@ use Rattle.std.proofs.lemmas.List.{map-append}
 use Rattle.store_core.specs.Act.{Act}
 use Rattle.call_steps.specs.CallOutcomes.{call_outcome_of}
 use Rattle.call_steps.specs.declared.outcome.CallOutcome.{CallOutcome}
-use Rattle.call_steps.specs.declared.outcome.CallOutcome.TheVariants as outcome
+use Rattle.call_steps.specs.declared.outcome.CallOutcome.TheVariants as ended
+use Rattle.call_steps.specs.declared.outcomes.Outcome.TheVariants as client
+use Rattle.call_steps.specs.declared.outcomes.RepairOutcome.TheVariants as repair
 use Rattle.call_machine.specs.Kinds.{Machine, IfReads}
 use Rattle.call_machine.specs.Ends.{IfBytesServed}
 use Rattle.call_steps.specs.declared.caller_calls.EndedCall.{EndedCall}
@@ -12,19 +14,11 @@ use Rattle.world_laws.specs.Served.{bytes_in}
 use Rattle.actors.specs.Owing.{AreServed}
 use Rattle.actors.specs.Inside.{served_of}
 
-by_outcome : (ended : CallOutcome) (m : Machine) (owed : List ℕ) (served after : List (Option (List ℕ))) → after ≡ served ++ bytes_in ended ∷ []
-    → IfReads m (IfBytesServed ended (λ bytes. bytes.items ≡ owed)) → AreServed (Act.Finish (call_outcome_of ended)) m owed served after
-by_outcome (outcome.Served point bytes) m owed served after more reads = record { bytes = bytes.items; more = more; reads = reads }
-by_outcome (outcome.Answered point reply) m owed served after more reads = more
-by_outcome (outcome.Unavailable stripe missing) m owed served after more reads = more
-by_outcome (outcome.Contended changes) m owed served after more reads = more
-by_outcome outcome.Rebuilt m owed served after more reads = more
-by_outcome outcome.Here m owed served after more reads = more
-by_outcome (outcome.Away downs) m owed served after more reads = more
-by_outcome outcome.NoSuch m owed served after more reads = more
-by_outcome (outcome.Superseded newer) m owed served after more reads = more
-by_outcome (outcome.Reaped at) m owed served after more reads = more
-by_outcome outcome.NoMemory m owed served after more reads = more
+by_outcome : (outcome : CallOutcome) (m : Machine) (owed : List ℕ) (served after : List (Option (List ℕ))) → after ≡ served ++ bytes_in outcome ∷ []
+    → IfReads m (IfBytesServed outcome (λ bytes. bytes.items ≡ owed)) → AreServed (Act.Finish (call_outcome_of outcome)) m owed served after
+by_outcome (ended.Client (client.Served point bytes)) m owed served after more reads = record { bytes = bytes.items; more = more; reads = reads }
+by_outcome (ended.Rebuild repair.Rebuilt) m owed served after more reads = more
+by_outcome outcome m owed served after more reads = more
 
 pub served_after : (act : Act) (x : EndedCall) (m : Machine) (owed : List ℕ) (ended last : List EndedCall) → act ≡ Act.Finish (call_outcome_of x.outcome) → last ≡ ended ++ x ∷ []
     → IfReads m (IfBytesServed x.outcome (λ bytes. bytes.items ≡ owed)) → AreServed act m owed (served_of ended) (served_of last)
