@@ -13,6 +13,7 @@ use Rattle.store_map.specs.declared.placement.Found.TheVariants as found
 use Rattle.store_map.specs.declared.placement.Placement.{Placement}
 use Rattle.store_map.specs.declared.placement.Placement.TheVariants as placement
 use Rattle.store_map.specs.declared.script.Script.{Script}
+use Rattle.store_map.specs.declared.call_name.ClientCall.{ClientCall}
 use Rattle.store_map.specs.declared.call_name.CallName.{CallName}
 use Rattle.store_map.specs.declared.cause.Cause.{Cause}
 use Rattle.store_map.specs.declared.cause.Cause.TheVariants as cause
@@ -304,14 +305,15 @@ module _ (script : Script) (values : IsScript script) (trace : List Made) (answe
     abbrev Lacks : CallName × List Triple → Type 0
     Lacks entry = LacksChunks script entry.0 entry.1
 
-    pub cause_form : (c : Cause) → WasCaused script trace call (λ outcome. cause_of outcome ≡ Some c) → NamesLosses trace call c
-        → NamesPoints trace call c → LostRace script t call c → All Lacks (missing_of_cause call c) → IsCause c
-    cause_form (cause.Unavailable stripe missing) caused losses named race lacks =
+    -- the race is the one of a client's call
+    pub cause_form : (racer : ClientCall) (c : Cause) → WasCaused script trace call (λ outcome. cause_of outcome ≡ Some c) → NamesLosses trace call c
+        → NamesPoints trace call c → LostRace script t racer c → All Lacks (missing_of_cause call c) → IsCause c
+    cause_form racer (cause.Unavailable stripe missing) caused losses named race lacks =
         lost_list stripe missing (refused_stripe (cause.Unavailable stripe missing) caused) (All-head Lacks (call, missing) [] lacks) losses
-    cause_form (cause.Contended pairs) caused losses named race lacks =
-        contended_form script t points pairs tried (option_and_then written_name (call_of script call)) race
-    cause_form (cause.Reaped at) caused losses named race lacks = within_long trace count low known call _ at named
-    cause_form cause.NoMemory caused losses named race lacks = tt
+    cause_form racer (cause.Contended pairs) caused losses named race lacks =
+        contended_form script t points pairs tried (option_and_then written_name (call_of script racer)) race
+    cause_form racer (cause.Reaped at) caused losses named race lacks = within_long trace count low known call _ at named
+    cause_form racer cause.NoMemory caused losses named race lacks = tt
 
     away_long : (told : ℕ) → WasAway trace call told → IsLong told
     away_long told h = subst IsLong (sym h.is.1.3) (saturated_long _)

@@ -4,6 +4,8 @@ use Rattle.std.proofs.lemmas.Bool.{cond_both, lt-ltb, eq-eqb, or_left, or_right,
 use Rattle.std.proofs.lemmas.Option.{slice_get_within}
 use Rattle.std.proofs.lemmas.List.Elements.{All-nil, All-cons, All-append, All-weaker}
 use Rattle.std.specs.List.{list_any}
+use Rattle.store_map.specs.declared.call_name.ClientCall.{ClientCall}
+use Rattle.store_map.specs.declared.call_name.RepairCall.{RepairCall}
 use Rattle.store_map.specs.declared.call_name.CallName.{CallName}
 use Rattle.store_map.specs.declared.call_name.CallName.TheVariants as name
 use Rattle.store_map.specs.declared.cause.Cause.{Cause}
@@ -17,7 +19,7 @@ use Rattle.transcript_read.specs.Order.{is_earlier}
 use Rattle.store_map.specs.declared.script.Script.{Script}
 use Rattle.store_core.specs.Core.{Core}
 use Rattle.store_core.specs.Outcomes.{cause_of, result_of}
-use Rattle.store_core.specs.Shown.{shown, refused_line, repair_line, unanswered_line, take_line, take_lines, lines_of_ended, lines_of_actors}
+use Rattle.store_core.specs.Shown.{shown, client_name, repairer_name, refused_line, repair_line, unanswered_line, take_line, take_lines, lines_of_ended, lines_of_actors}
 use Rattle.store_core.specs.Work.{Ended, Calling}
 use Rattle.history_laws.proofs.OrderLists.{no_pairs, one_pair, pairs_append, all_indexed, pairs_indexed}
 
@@ -32,10 +34,10 @@ by_actor i j m n less = or_left (nat_lt i j) (nat_eq i j && nat_lt m n) (lt-ltb 
 by_number : (i m n : ℕ) → m < n → (nat_lt i i || (nat_eq i i && nat_lt m n)) ≡ true
 by_number i m n less = or_right (nat_lt i i) (nat_eq i i && nat_lt m n) (and_from (nat_eq i i) (nat_lt m n) (eq-eqb i i refl) (lt-ltb m n less))
 
-clients_rise : NamesRise name.Client
+clients_rise : NamesRise client_name
 clients_rise = record { actor = by_actor; number = by_number }
 
-repairers_rise : NamesRise name.Repairer
+repairers_rise : NamesRise repairer_name
 repairers_rise = record { actor = by_actor; number = by_number }
 
 -- elements of two lists
@@ -51,14 +53,14 @@ module _ {Line : Type 0} (call : Line → CallName) where
   abbrev pub IsOf : (ℕ → ℕ → CallName) → Line → Type 0
   IsOf nm l = (i : ℕ) × (n : ℕ) × (call l ≡ nm i n)
 
-  groups_rise : (xs ys : List Line) → All (IsOf name.Client) xs → All (IsOf name.Repairer) ys → AllPairs Rises xs → AllPairs Rises ys
+  groups_rise : (xs ys : List Line) → All (IsOf client_name) xs → All (IsOf repairer_name) ys → AllPairs Rises xs → AllPairs Rises ys
       → AllPairs Rises (xs ++ ys)
   groups_rise xs ys clients repairers one two =
       pairs_append Rises xs ys one two
-      (cross (IsOf name.Client) (IsOf name.Repairer) Rises xs ys
+      (cross (IsOf client_name) (IsOf repairer_name) Rises xs ys
       (λ l other here there.
       subst (λ (c : CallName). is_earlier c (call other) ≡ true) (sym here.2)
-      (subst (λ (c : CallName). is_earlier (name.Client here.0 here.1) c ≡ true) (sym there.2) refl)) clients repairers)
+      (subst (λ (c : CallName). is_earlier (client_name here.0 here.1) c ≡ true) (sym there.2) refl)) clients repairers)
 
   module _ (nm : ℕ → ℕ → CallName) (rise : NamesRise nm) where
     same_rise : (i m n : ℕ) (l other : Line) → m < n → call l ≡ nm i m → call other ≡ nm i n → Rises l other
@@ -111,21 +113,33 @@ module _ {Line : Type 0} (call : Line → CallName) where
           (λ i c is. All-weaker (OfActor i) (IsOf nm) (λ l o. (i, o.0, o.1)) (lines i c) (of i c))
 
 -- ---- the lines of a call
-each_refused : (call : CallName) (o : Option Cause) → All (λ (l : XLine). l.call ≡ call) (refused_line call o)
-each_refused call None = All-nil (λ (l : XLine). l.call ≡ call)
-each_refused call (Some cause) =
-    All-cons (λ (l : XLine). l.call ≡ call) (record { call = call; cause = cause }) [] refl (All-nil (λ (l : XLine). l.call ≡ call))
+abbrev pub x_call : XLine → CallName
+x_call l = name.Client l.call
 
-one_refused : (R : XLine → XLine → Type 0) (call : CallName) (o : Option Cause) → AllPairs R (refused_line call o)
+abbrev pub r_call : RLine → CallName
+r_call l = name.Repairer l.call
+
+abbrev pub o_call : OLine → CallName
+o_call l = l.call
+
+abbrev pub g_call : GLine → CallName
+g_call l = l.call
+
+each_refused : (call : ClientCall) (o : Option Cause) → All (λ (l : XLine). x_call l ≡ name.Client call) (refused_line call o)
+each_refused call None = All-nil (λ (l : XLine). x_call l ≡ name.Client call)
+each_refused call (Some cause) =
+    All-cons (λ (l : XLine). x_call l ≡ name.Client call) (record { call = call; cause = cause }) [] refl (All-nil (λ (l : XLine). x_call l ≡ name.Client call))
+
+one_refused : (R : XLine → XLine → Type 0) (call : ClientCall) (o : Option Cause) → AllPairs R (refused_line call o)
 one_refused R call None = no_pairs R
 one_refused R call (Some cause) = one_pair R (record { call = call; cause = cause })
 
-each_repair : (call : CallName) (o : Option RepairResult) → All (λ (l : RLine). l.call ≡ call) (repair_line call o)
-each_repair call None = All-nil (λ (l : RLine). l.call ≡ call)
+each_repair : (call : RepairCall) (o : Option RepairResult) → All (λ (l : RLine). r_call l ≡ name.Repairer call) (repair_line call o)
+each_repair call None = All-nil (λ (l : RLine). r_call l ≡ name.Repairer call)
 each_repair call (Some result) =
-    All-cons (λ (l : RLine). l.call ≡ call) (record { call = call; result = result }) [] refl (All-nil (λ (l : RLine). l.call ≡ call))
+    All-cons (λ (l : RLine). r_call l ≡ name.Repairer call) (record { call = call; result = result }) [] refl (All-nil (λ (l : RLine). r_call l ≡ name.Repairer call))
 
-one_repair : (R : RLine → RLine → Type 0) (call : CallName) (o : Option RepairResult) → AllPairs R (repair_line call o)
+one_repair : (R : RLine → RLine → Type 0) (call : RepairCall) (o : Option RepairResult) → AllPairs R (repair_line call o)
 one_repair R call None = no_pairs R
 one_repair R call (Some result) = one_pair R (record { call = call; result = result })
 
@@ -154,59 +168,31 @@ one_open R nm c = cond_both {A = List OLine} (nat_lt 0 c.steps) (record { call =
     (λ _. one_pair R (record { call = nm (length c.ended) })) (λ _. no_pairs R)
 
 -- ---- the lists of a core
-abbrev pub x_call : XLine → CallName
-x_call l = l.call
-
-abbrev pub r_call : RLine → CallName
-r_call l = l.call
-
-abbrev pub o_call : OLine → CallName
-o_call l = l.call
-
-abbrev pub g_call : GLine → CallName
-g_call l = l.call
-
 module _ (script : Script) (core : Core) where
   abbrev t : Transcript
   t = shown script core
 
   abbrev x_line : ℕ → ℕ → Ended → List XLine
-  x_line i n e = refused_line (name.Client i n) (cause_of e.outcome)
+  x_line i n e = refused_line (record { client = i; number = n }) (cause_of e.outcome)
 
   pub refused_rise : AllPairs (Rises x_call) t.refused
   refused_rise =
-      actors_rise x_call name.Client clients_rise (λ i. lines_of_ended (x_line i))
-      (ended_rise x_call name.Client clients_rise x_line (λ i n e. each_refused (name.Client i n) (cause_of e.outcome))
-      (λ i n e. one_refused (Rises x_call) (name.Client i n) (cause_of e.outcome)))
-      (ended_of x_call name.Client clients_rise x_line (λ i n e. each_refused (name.Client i n) (cause_of e.outcome))
-      (λ i n e. one_refused (Rises x_call) (name.Client i n) (cause_of e.outcome))) core.clients
-
-  pub refused_of : All (IsOf x_call name.Client) t.refused
-  refused_of =
-      actors_of x_call name.Client clients_rise (λ i. lines_of_ended (x_line i))
-      (ended_rise x_call name.Client clients_rise x_line (λ i n e. each_refused (name.Client i n) (cause_of e.outcome))
-      (λ i n e. one_refused (Rises x_call) (name.Client i n) (cause_of e.outcome)))
-      (ended_of x_call name.Client clients_rise x_line (λ i n e. each_refused (name.Client i n) (cause_of e.outcome))
-      (λ i n e. one_refused (Rises x_call) (name.Client i n) (cause_of e.outcome))) core.clients
+      actors_rise x_call client_name clients_rise (λ i. lines_of_ended (x_line i))
+      (ended_rise x_call client_name clients_rise x_line (λ i n e. each_refused (record { client = i; number = n }) (cause_of e.outcome))
+      (λ i n e. one_refused (Rises x_call) (record { client = i; number = n }) (cause_of e.outcome)))
+      (ended_of x_call client_name clients_rise x_line (λ i n e. each_refused (record { client = i; number = n }) (cause_of e.outcome))
+      (λ i n e. one_refused (Rises x_call) (record { client = i; number = n }) (cause_of e.outcome))) core.clients
 
   abbrev r_line : ℕ → ℕ → Ended → List RLine
-  r_line i n e = repair_line (name.Repairer i n) (result_of e.outcome)
+  r_line i n e = repair_line (record { repairer = i; number = n }) (result_of e.outcome)
 
   pub repairs_rise : AllPairs (Rises r_call) t.repairs
   repairs_rise =
-      actors_rise r_call name.Repairer repairers_rise (λ i. lines_of_ended (r_line i))
-      (ended_rise r_call name.Repairer repairers_rise r_line (λ i n e. each_repair (name.Repairer i n) (result_of e.outcome))
-      (λ i n e. one_repair (Rises r_call) (name.Repairer i n) (result_of e.outcome)))
-      (ended_of r_call name.Repairer repairers_rise r_line (λ i n e. each_repair (name.Repairer i n) (result_of e.outcome))
-      (λ i n e. one_repair (Rises r_call) (name.Repairer i n) (result_of e.outcome))) core.repairers
-
-  pub repairs_of : All (IsOf r_call name.Repairer) t.repairs
-  repairs_of =
-      actors_of r_call name.Repairer repairers_rise (λ i. lines_of_ended (r_line i))
-      (ended_rise r_call name.Repairer repairers_rise r_line (λ i n e. each_repair (name.Repairer i n) (result_of e.outcome))
-      (λ i n e. one_repair (Rises r_call) (name.Repairer i n) (result_of e.outcome)))
-      (ended_of r_call name.Repairer repairers_rise r_line (λ i n e. each_repair (name.Repairer i n) (result_of e.outcome))
-      (λ i n e. one_repair (Rises r_call) (name.Repairer i n) (result_of e.outcome))) core.repairers
+      actors_rise r_call repairer_name repairers_rise (λ i. lines_of_ended (r_line i))
+      (ended_rise r_call repairer_name repairers_rise r_line (λ i n e. each_repair (record { repairer = i; number = n }) (result_of e.outcome))
+      (λ i n e. one_repair (Rises r_call) (record { repairer = i; number = n }) (result_of e.outcome)))
+      (ended_of r_call repairer_name repairers_rise r_line (λ i n e. each_repair (record { repairer = i; number = n }) (result_of e.outcome))
+      (λ i n e. one_repair (Rises r_call) (record { repairer = i; number = n }) (result_of e.outcome))) core.repairers
 
   -- ---- the call that an actor has begun
   module _ (nm : ℕ → ℕ → CallName) (rise : NamesRise nm) (callings : List Calling) where
@@ -225,9 +211,9 @@ module _ (script : Script) (core : Core) where
 
   pub unanswered_rise : AllPairs (Rises o_call) t.unanswered
   unanswered_rise =
-      groups_rise o_call (opens name.Client clients_rise core.clients) (opens name.Repairer repairers_rise core.repairers)
-      (opens_of name.Client clients_rise core.clients) (opens_of name.Repairer repairers_rise core.repairers)
-      (opens_rise name.Client clients_rise core.clients) (opens_rise name.Repairer repairers_rise core.repairers)
+      groups_rise o_call (opens client_name clients_rise core.clients) (opens repairer_name repairers_rise core.repairers)
+      (opens_of client_name clients_rise core.clients) (opens_of repairer_name repairers_rise core.repairers)
+      (opens_rise client_name clients_rise core.clients) (opens_rise repairer_name repairers_rise core.repairers)
 
   -- ---- what calls took
   module _ (nm : ℕ → ℕ → CallName) (rise : NamesRise nm) (callings : List Calling) where
@@ -271,6 +257,6 @@ module _ (script : Script) (core : Core) where
 
   pub takes_rise : AllPairs (Rises g_call) t.takes
   takes_rise =
-      groups_rise g_call (all_takes name.Client clients_rise core.clients) (all_takes name.Repairer repairers_rise core.repairers)
-      (group_of name.Client clients_rise core.clients) (group_of name.Repairer repairers_rise core.repairers)
-      (group_takes name.Client clients_rise core.clients) (group_takes name.Repairer repairers_rise core.repairers)
+      groups_rise g_call (all_takes client_name clients_rise core.clients) (all_takes repairer_name repairers_rise core.repairers)
+      (group_of client_name clients_rise core.clients) (group_of repairer_name repairers_rise core.repairers)
+      (group_takes client_name clients_rise core.clients) (group_takes repairer_name repairers_rise core.repairers)

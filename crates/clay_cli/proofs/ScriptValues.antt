@@ -1,5 +1,5 @@
 -- What the values of a script's calls say of its calls' names, of what is kept of them, and of the calls that lines name.
-use Rattle.std.proofs.Common.{◌≡◌, ℕ, ◌<◌, ◌≤◌, ◌^◌, true, List, length, map, Option, None, Some, option_and_then, option_map, IfSome, All, refl, sym, ap, subst, ◌∙◌, arith, true≢false}
+use Rattle.std.proofs.Common.{◌≡◌, ℕ, ◌<◌, ◌≤◌, ◌^◌, List, length, map, Option, None, Some, option_and_then, option_map, IfSome, All, refl, ap, subst, ◌∙◌, arith}
 use Rattle.std.proofs.lemmas.Option.{none-some, slice_get-map, slice_get_within}
 use Rattle.std.specs.List.{slice_get}
 use Rattle.std.specs.Option.{option_map_or}
@@ -14,11 +14,11 @@ use Rattle.store_map.specs.declared.script.ClientPart.{ClientPart}
 use Rattle.store_map.specs.declared.script.RepairPart.{RepairPart}
 use Rattle.store_map.specs.declared.script.Script.{Script}
 use Rattle.line_grammar.specs.Values.{IsContent, IsCall as IsCallValue, IsRebuild, IsNumber, IsScript}
+use Rattle.store_map.specs.declared.call_name.ClientCall.{ClientCall}
 use Rattle.store_map.specs.declared.call_name.CallName.{CallName}
 use Rattle.store_map.specs.declared.call_name.CallName.TheVariants as name
 use Rattle.transcript_read.specs.Values.{IsCallName}
 use Rattle.hist_rules.specs.Calls.{call_of}
-use Rattle.hist_rules.specs.LineLaws.{is_client}
 use Rattle.store_core.specs.NextAct.{Job, job_of, rebuild_job}
 use Rattle.store_core.specs.Note.{Note, note_of}
 use Rattle.store_core.specs.Work.{Work, client_work, repairer_work}
@@ -84,83 +84,82 @@ module _ (script : Script) (values : IsScript script) where
 
   -- of the job of a call
   pub job_small : (c : CallName) (job : Job) → job_of_call script c ≡ Some job → IsSmall job.note
-  job_small (name.Client i number) job e = job_in (client_work script) client_job_small i number (slice_get (client_work script) i) refl job e
-  job_small (name.Repairer i number) job e = job_in (repairer_work script) repairer_job_small i number (slice_get (repairer_work script) i) refl job e
+  job_small (name.Client own) job e = job_in (client_work script) client_job_small own.client own.number (slice_get (client_work script) own.client) refl job e
+  job_small (name.Repairer own) job e = job_in (repairer_work script) repairer_job_small own.repairer own.number (slice_get (repairer_work script) own.repairer) refl job e
 
   -- ---- the call that a client's line names
-  pub record CallThere (c : CallName) : Type 0 where
+  pub record CallThere (own : ClientCall) : Type 0 where
     pub call : Call
-    pub is_call : call_of script c ≡ Some call
+    pub is_call : call_of script own ≡ Some call
     pub value : IsCallValue call
 
-  pub call_there : (c : CallName) → is_client c ≡ true → IsCall script c → CallThere c
-  call_there (name.Repairer i number) client is = absurd (true≢false (sym client))
-  call_there (name.Client i number) client is = by (slice_get script.clients i) refl is
+  pub call_there : (own : ClientCall) → IsCall script (name.Client own) → CallThere own
+  call_there own is = by (slice_get script.clients own.client) refl is
     where
-      by : (found : Option ClientPart) → slice_get script.clients i ≡ found
-          → number < option_map_or (λ (part : ClientPart). length part.calls) found 0 → CallThere (name.Client i number)
+      by : (found : Option ClientPart) → slice_get script.clients own.client ≡ found
+          → own.number < option_map_or (λ (part : ClientPart). length part.calls) found 0 → CallThere own
       by None e low = absurd (omega (arith, low))
       by (Some part) e low =
-          let one : (c : Call) × (slice_get part.calls number ≡ Some c) = inside part.calls number low in
+          let one : (c : Call) × (slice_get part.calls own.number ≡ Some c) = inside part.calls own.number low in
           let all : All IsCallValue part.calls × IfSome part.leave IsNumber =
-          at_all (λ (p : ClientPart). All IsCallValue p.calls × IfSome p.leave IsNumber) script.clients i part values.clients e in
+          at_all (λ (p : ClientPart). All IsCallValue p.calls × IfSome p.leave IsNumber) script.clients own.client part values.clients e in
           record {
             call = one.0;
-            is_call = ap (option_and_then (λ (p : ClientPart). slice_get p.calls number)) e ∙ one.1;
-            value = at_all IsCallValue part.calls number one.0 all.0 one.1;
+            is_call = ap (option_and_then (λ (p : ClientPart). slice_get p.calls own.number)) e ∙ one.1;
+            value = at_all IsCallValue part.calls own.number one.0 all.0 one.1;
           }
 
   -- ---- the job of a call
   pub job_there : (c : CallName) → IsCall script c → (job : Job) × (job_of_call script c ≡ Some job)
-  job_there (name.Client i number) is = there (slice_get script.clients i) refl is
+  job_there (name.Client own) is = there (slice_get script.clients own.client) refl is
     where
-      there : (found : Option ClientPart) → slice_get script.clients i ≡ found
-          → number < option_map_or (λ (part : ClientPart). length part.calls) found 0
-          → (job : Job) × (job_of_call script (name.Client i number) ≡ Some job)
+      there : (found : Option ClientPart) → slice_get script.clients own.client ≡ found
+          → own.number < option_map_or (λ (part : ClientPart). length part.calls) found 0
+          → (job : Job) × (job_of_call script (name.Client own) ≡ Some job)
       there None e low = absurd (omega (arith, low))
       there (Some part) e low =
-          let one : (c : Call) × (slice_get part.calls number ≡ Some c) = inside part.calls number low in (
+          let one : (c : Call) × (slice_get part.calls own.number ≡ Some c) = inside part.calls own.number low in (
             job_of one.0,
-            ap (option_and_then (λ (work : Work). slice_get work.jobs number))
-                (slice_get-map (λ (p : ClientPart). record { jobs = map job_of p.calls; leave = p.leave }) script.clients i ∙ ap
+            ap (option_and_then (λ (work : Work). slice_get work.jobs own.number))
+                (slice_get-map (λ (p : ClientPart). record { jobs = map job_of p.calls; leave = p.leave }) script.clients own.client ∙ ap
                 (option_map (λ (p : ClientPart). record { jobs = map job_of p.calls; leave = p.leave })) e)
-                ∙ slice_get-map job_of part.calls number ∙ ap (option_map job_of) one.1,
+                ∙ slice_get-map job_of part.calls own.number ∙ ap (option_map job_of) one.1,
           )
-  job_there (name.Repairer i number) is = there (slice_get script.repairers i) refl is
+  job_there (name.Repairer own) is = there (slice_get script.repairers own.repairer) refl is
     where
-      there : (found : Option RepairPart) → slice_get script.repairers i ≡ found
-          → number < option_map_or (λ (part : RepairPart). length part.calls) found 0
-          → (job : Job) × (job_of_call script (name.Repairer i number) ≡ Some job)
+      there : (found : Option RepairPart) → slice_get script.repairers own.repairer ≡ found
+          → own.number < option_map_or (λ (part : RepairPart). length part.calls) found 0
+          → (job : Job) × (job_of_call script (name.Repairer own) ≡ Some job)
       there None e low = absurd (omega (arith, low))
       there (Some part) e low =
-          let one : (c : Rebuild) × (slice_get part.calls number ≡ Some c) = inside part.calls number low in (
+          let one : (c : Rebuild) × (slice_get part.calls own.number ≡ Some c) = inside part.calls own.number low in (
             rebuild_job one.0,
-            ap (option_and_then (λ (work : Work). slice_get work.jobs number))
-                (slice_get-map (λ (p : RepairPart). record { jobs = map rebuild_job p.calls; leave = p.leave }) script.repairers i ∙ ap
+            ap (option_and_then (λ (work : Work). slice_get work.jobs own.number))
+                (slice_get-map (λ (p : RepairPart). record { jobs = map rebuild_job p.calls; leave = p.leave }) script.repairers own.repairer ∙ ap
                 (option_map (λ (p : RepairPart). record { jobs = map rebuild_job p.calls; leave = p.leave })) e)
-                ∙ slice_get-map rebuild_job part.calls number ∙ ap (option_map rebuild_job) one.1,
+                ∙ slice_get-map rebuild_job part.calls own.number ∙ ap (option_map rebuild_job) one.1,
           )
 
 -- ---- the numbers of a call that is there
 pub named_short : (script : Script) → IsValid script → (c : CallName) → IsCall script c → IsCallName c
-named_short script valid (name.Client i number) is = by (slice_get script.clients i) refl is
+named_short script valid (name.Client own) is = by (slice_get script.clients own.client) refl is
   where
-    by : (found : Option ClientPart) → slice_get script.clients i ≡ found → number < option_map_or (λ (part : ClientPart). length part.calls) found 0
-        → IsCallName (name.Client i number)
+    by : (found : Option ClientPart) → slice_get script.clients own.client ≡ found → own.number < option_map_or (λ (part : ClientPart). length part.calls) found 0
+        → IsCallName (name.Client own)
     by None e low = absurd (omega (arith, low))
     by (Some part) e low =
-        let here : i < length script.clients = slice_get_within script.clients i part e in
+        let here : own.client < length script.clients = slice_get_within script.clients own.client part e in
         let most : length script.clients ≤ 64 = valid.limits.clients in
-        let few : length part.calls ≤ 4096 = at_all (λ (p : ClientPart). length p.calls ≤ 4096) script.clients i part valid.limits.client_calls e in
+        let few : length part.calls ≤ 4096 = at_all (λ (p : ClientPart). length p.calls ≤ 4096) script.clients own.client part valid.limits.client_calls e in
         (omega (arith, here, most), omega (arith, low, few))
-named_short script valid (name.Repairer i number) is = by (slice_get script.repairers i) refl is
+named_short script valid (name.Repairer own) is = by (slice_get script.repairers own.repairer) refl is
   where
-    by : (found : Option RepairPart) → slice_get script.repairers i ≡ found
-        → number < option_map_or (λ (part : RepairPart). length part.calls) found 0 → IsCallName (name.Repairer i number)
+    by : (found : Option RepairPart) → slice_get script.repairers own.repairer ≡ found
+        → own.number < option_map_or (λ (part : RepairPart). length part.calls) found 0 → IsCallName (name.Repairer own)
     by None e low = absurd (omega (arith, low))
     by (Some part) e low =
-        let here : i < length script.repairers = slice_get_within script.repairers i part e in
+        let here : own.repairer < length script.repairers = slice_get_within script.repairers own.repairer part e in
         let most : length script.repairers ≤ 16 = valid.limits.repairers in
         let few : length part.calls ≤ 4096 =
-        at_all (λ (p : RepairPart). length p.calls ≤ 4096) script.repairers i part valid.limits.repairer_calls e in
+        at_all (λ (p : RepairPart). length p.calls ≤ 4096) script.repairers own.repairer part valid.limits.repairer_calls e in
         (omega (arith, here, most), omega (arith, low, few))

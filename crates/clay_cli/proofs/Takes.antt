@@ -1,5 +1,5 @@
 -- Lines of takes have a number for each server, one of them above 0, and all below 2^64.
-use Rattle.std.proofs.Common.{◌≡◌, ℕ, zero, suc, true, nat_eq, nat_lt, List, [], ◌∷◌, length, replicate, Some, All, Contains, refl, subst, ◌∙◌, arith}
+use Rattle.std.proofs.Common.{◌≡◌, ℕ, zero, suc, true, nat_eq, nat_lt, ◌&&◌, List, [], ◌∷◌, length, replicate, Some, All, Contains, refl, subst, ◌∙◌, arith}
 use Rattle.std.proofs.lemmas.Bool.{cond_both, eq-eqb, and_from}
 use Rattle.std.proofs.lemmas.List.{length-replicate}
 use Rattle.std.proofs.lemmas.List.Elements.{All-nil, All-cons, All-head, All-tail, All-replicate, All-contains}
@@ -72,9 +72,12 @@ line_is n call takes are =
     (λ e. All-cons (IsTake n) (record { call = call; takes = takes }) [] (record { takes = are; some = e }) (All-nil (IsTake n)))
     (λ e. All-nil (IsTake n))
 
+same_numbers : (i number : ℕ) → (nat_eq i i && nat_eq number number) ≡ true
+same_numbers i number = and_from (nat_eq i i) (nat_eq number number) (eq-eqb i i refl) (eq-eqb number number refl)
+
 self : (call : CallName) → same_call call call ≡ true
-self (name.Client i number) = and_from (nat_eq i i) (nat_eq number number) (eq-eqb i i refl) (eq-eqb number number refl)
-self (name.Repairer i number) = and_from (nat_eq i i) (nat_eq number number) (eq-eqb i i refl) (eq-eqb number number refl)
+self (name.Client call) = same_numbers call.client call.number
+self (name.Repairer call) = same_numbers call.repairer call.number
 
 module _ (script : Script) (trace : List Made) (t : Transcript) (least : TakesLeast script trace t) where
   take_is : (line : GLine) → Contains t.takes line → (job : Job) → job_of_call script line.call ≡ Some job → IsTake (chunk_count script.geometry) line

@@ -1,5 +1,5 @@
 -- What a run shows is well formed.
-use Rattle.std.proofs.Common.{◌≡◌, ℕ, suc, ◌+◌, ◌-◌, ◌<◌, ◌≤◌, ◌^◌, Bool, true, List, [], ◌∷◌, length, get_or, map, flat_map, filter, Option, None, Some, All, refl, sym, ap, subst, ◌∙◌, arith, true≢false}
+use Rattle.std.proofs.Common.{◌≡◌, ℕ, suc, ◌+◌, ◌-◌, ◌<◌, ◌≤◌, ◌^◌, Bool, List, [], ◌∷◌, length, get_or, map, flat_map, filter, Option, None, Some, All, refl, sym, ap, subst, ◌∙◌, arith}
 use Rattle.std.proofs.lemmas.List.Elements.{All-nil, All-cons, All-head, All-tail, All-append, All-weaker, All-map, Contains-get_or}
 use Rattle.std.specs.List.{enumerate_from}
 use Rattle.clay_grid.specs.Shape.{chunk_count}
@@ -13,6 +13,7 @@ use Rattle.store_map.specs.declared.call.Call.{Call}
 use Rattle.store_map.specs.declared.reply.Reply.{Reply}
 use Rattle.store_map.specs.declared.script.Script.{Script}
 use Rattle.line_grammar.specs.Values.{IsScript}
+use Rattle.store_map.specs.declared.call_name.ClientCall.{ClientCall}
 use Rattle.store_map.specs.declared.call_name.CallName.{CallName}
 use Rattle.store_map.specs.declared.call_name.CallName.TheVariants as name
 use Rattle.store_map.specs.declared.cause.Triple.{Triple}
@@ -22,18 +23,17 @@ use Rattle.store_map.specs.declared.line.RLine.{RLine}
 use Rattle.store_map.specs.declared.line.TLine.{TLine}
 use Rattle.store_map.specs.declared.shown.Shown.{Shown}
 use Rattle.store_map.specs.declared.transcript.Transcript.{Transcript}
-use Rattle.transcript_read.specs.Forms.{IsClient, IsRepairer, IsHistoryLine, IsRefusedLine, IsRepairLine, IsUnansweredLine, IsObjectLine, IsTakesLine, IsServerLine}
+use Rattle.transcript_read.specs.Forms.{IsHistoryLine, IsRefusedLine, IsRepairLine, IsUnansweredLine, IsObjectLine, IsTakesLine, IsServerLine}
 use Rattle.transcript_read.specs.Values.{IsLong, IsShown}
 use Rattle.transcript_read.specs.WellFormed.{IsWellFormed}
 use Rattle.hist_rules.specs.FoundMissing.{LacksChunks}
-use Rattle.hist_rules.specs.LineLaws.{is_client}
 use Rattle.hist_rules.specs.LostChunks.{missing_of_cause, missing_of_result}
 use Rattle.hist_rules.specs.ObjectsListed.{shown_object}
 use Rattle.hist_rules.specs.RepliesMatch.{history_calls}
 use Rattle.store_core.specs.Calls.{Calls}
 use Rattle.store_core.specs.Core.{Core}
 use Rattle.store_core.specs.Directory.{Point}
-use Rattle.store_core.specs.History.{applied, shown_at, name_of, line_of, history_from}
+use Rattle.store_core.specs.History.{applied, shown_at, client_call, line_of, history_from}
 use Rattle.store_core.specs.NextAct.{Job}
 use Rattle.store_core.specs.PlaceLaws.{IsCounted}
 use Rattle.store_core.specs.Schedule.{run_core}
@@ -54,7 +54,7 @@ use Rattle.history_laws.specs.Faithful.{IsFaithful}
 use Rattle.history_laws.proofs.Plays.{runs_are_played}
 use Rattle.clay_cli.specs.FormLaws.{HasFewLines, FaithfulRunsAreWellFormed, PlayedAreWellFormed, RunsAreWellFormed, ThreadedAreWellFormed}
 use Rattle.clay_cli.proofs.Few.{IsFew, runs_are_few, filtered_few}
-use Rattle.clay_cli.proofs.Orders.{refused_rise, refused_of, repairs_rise, repairs_of, unanswered_rise, takes_rise}
+use Rattle.clay_cli.proofs.Orders.{refused_rise, repairs_rise, unanswered_rise, takes_rise}
 use Rattle.clay_cli.proofs.Chains.{Numbered, well_formed}
 use Rattle.clay_cli.proofs.ScriptValues.{CallThere, call_there, job_there, named_short}
 use Rattle.clay_cli.proofs.Replies.{IsObject, IsThere, calls_are, all_kept, replies_form}
@@ -66,7 +66,7 @@ use Rattle.clay_cli.proofs.Takes.{take_form}
 abbrev Below : ℕ → HLine → Type 0
 Below most line = line.point < most
 
-own_below : (place most : ℕ) → place < most → (nm : Option CallName) (s : Option Shown) → All (Below most) (line_of place nm s)
+own_below : (place most : ℕ) → place < most → (nm : Option ClientCall) (s : Option Shown) → All (Below most) (line_of place nm s)
 own_below place most low None s = All-nil (Below most)
 own_below place most low (Some call) None = All-nil (Below most)
 own_below place most low (Some call) (Some s) = All-cons (Below most) (record { point = place; call = call; reply = s }) [] low (All-nil (Below most))
@@ -77,9 +77,9 @@ history_below max calls answered place objects [] = All-nil (Below (place + 0))
 history_below max calls answered place objects (point ∷ points) =
     let after : Objects × Reply = applied max objects point.event (calls point.actor point.number) in
     All-append (Below (place + length (point ∷ points)))
-    (line_of place (name_of point.actor point.number) (shown_at point.event (answered point.actor point.number) after.1))
+    (line_of place (client_call point.actor point.number) (shown_at point.event (answered point.actor point.number) after.1))
     (history_from max calls answered (place + 1) after.0 points)
-    (own_below place (place + length (point ∷ points)) (omega arith) (name_of point.actor point.number)
+    (own_below place (place + length (point ∷ points)) (omega arith) (client_call point.actor point.number)
     (shown_at point.event (answered point.actor point.number) after.1))
     (All-weaker (Below (place + 1 + length points)) (Below (place + length (point ∷ points))) (λ line h. omega (arith, h))
     (history_from max calls answered (place + 1) after.0 points)
@@ -116,10 +116,6 @@ flat_all : {X Y : Type 0} (P : Y → Type 0) (f : X → List Y) (xs : List X) �
 flat_all P f [] h = All-nil (λ x. All P (f x))
 flat_all P f (x ∷ xs) h = All-cons (λ y. All P (f y)) x xs (all_left P (f x) (flat_map f xs) h)
     (flat_all P f xs (all_right P (f x) (flat_map f xs) h))
-
-client_is : (call : CallName) → is_client call ≡ true → IsClient call
-client_is (name.Client i number) e = tt
-client_is (name.Repairer i number) e = absurd (true≢false (sym e))
 
 -- ---- all lines
 module _ (script : Script) (values : IsScript script) (valid : IsValid script) (shortages : List Shortage) (tokens : List Token) (few_lines : HasFewLines tokens) where
@@ -170,7 +166,7 @@ module _ (script : Script) (values : IsScript script) (valid : IsValid script) (
     there : All (IsThere (size_of script) small script) t.history
     there i d less =
         let one : CallThere script values (get_or t.history i d).call =
-        call_there script values (get_or t.history i d).call (faithful.clients i d less) (order.calls i d less) in
+        call_there script values (get_or t.history i d).call (order.calls i d less) in
         record { call = one.call; is_call = one.is_call; value = one.value }
 
     replies : All (λ (line : HLine). IsShown line.reply) t.history
@@ -180,9 +176,7 @@ module _ (script : Script) (values : IsScript script) (valid : IsValid script) (
     history_form : All IsHistoryLine t.history
     history_form i d less = (
       points_long i d less,
-      named_short script valid (get_or t.history i d).call (order.calls i d less),
-      client_is
-          (get_or t.history i d).call (faithful.clients i d less),
+      named_short script valid (name.Client (get_or t.history i d).call) (order.calls i d less),
       replies i d less,
     )
 
@@ -205,32 +199,30 @@ module _ (script : Script) (values : IsScript script) (valid : IsValid script) (
     abbrev Lacks : CallName × List Triple → Type 0
     Lacks entry = LacksChunks script entry.0 entry.1
 
-    refused_lacks : All (λ (line : XLine). All Lacks (missing_of_cause line.call line.cause)) t.refused
+    refused_lacks : All (λ (line : XLine). All Lacks (missing_of_cause (name.Client line.call) line.cause)) t.refused
     refused_lacks =
-        flat_all Lacks (λ (line : XLine). missing_of_cause line.call line.cause) t.refused
-        (all_left Lacks (flat_map (λ (line : XLine). missing_of_cause line.call line.cause) t.refused)
-        (flat_map (λ (line : RLine). missing_of_result line.call line.result) t.repairs) faithful.history.missing)
+        flat_all Lacks (λ (line : XLine). missing_of_cause (name.Client line.call) line.cause) t.refused
+        (all_left Lacks (flat_map (λ (line : XLine). missing_of_cause (name.Client line.call) line.cause) t.refused)
+        (flat_map (λ (line : RLine). missing_of_result (name.Repairer line.call) line.result) t.repairs) faithful.history.missing)
 
-    repairs_lack : All (λ (line : RLine). All Lacks (missing_of_result line.call line.result)) t.repairs
+    repairs_lack : All (λ (line : RLine). All Lacks (missing_of_result (name.Repairer line.call) line.result)) t.repairs
     repairs_lack =
-        flat_all Lacks (λ (line : RLine). missing_of_result line.call line.result) t.repairs
-        (all_right Lacks (flat_map (λ (line : XLine). missing_of_cause line.call line.cause) t.refused)
-        (flat_map (λ (line : RLine). missing_of_result line.call line.result) t.repairs) faithful.history.missing)
+        flat_all Lacks (λ (line : RLine). missing_of_result (name.Repairer line.call) line.result) t.repairs
+        (all_right Lacks (flat_map (λ (line : XLine). missing_of_cause (name.Client line.call) line.cause) t.refused)
+        (flat_map (λ (line : RLine). missing_of_result (name.Repairer line.call) line.result) t.repairs) faithful.history.missing)
 
     refused_form : All IsRefusedLine t.refused
     refused_form i d less = (
-      named_short script valid (get_or t.refused i d).call (others.refused i d less),
-      subst IsClient (sym (refused_of script core i d less).2) tt,
-      cause_form script values trace answers (get_or t.refused i d).call few_servers can.tried t points_long
-          (length core.directory.points) few.points known (get_or t.refused i d).cause (faithful.causes.refused i d less)
+      named_short script valid (name.Client (get_or t.refused i d).call) (others.refused i d less),
+      cause_form script values trace answers (name.Client (get_or t.refused i d).call) few_servers can.tried t points_long
+          (length core.directory.points) few.points known (get_or t.refused i d).call (get_or t.refused i d).cause (faithful.causes.refused i d less)
           (faithful.losses.refused i d less) (faithful.points.refused i d less) (faithful.history.races i d less) (refused_lacks i d less),
     )
 
     repairs_form : All IsRepairLine t.repairs
     repairs_form i d less = (
-      named_short script valid (get_or t.repairs i d).call (others.repairs i d less),
-      subst IsRepairer (sym (repairs_of script core i d less).2) tt,
-      result_form script values trace answers (get_or t.repairs i d).call few_servers can.tried t points_long
+      named_short script valid (name.Repairer (get_or t.repairs i d).call) (others.repairs i d less),
+      result_form script values trace answers (name.Repairer (get_or t.repairs i d).call) few_servers can.tried t points_long
           (length core.directory.points) few.points known (get_or t.repairs i d).result (faithful.causes.repairs i d less)
           (faithful.losses.repairs i d less) (faithful.points.repairs i d less) (repairs_lack i d less),
     )
