@@ -2,7 +2,7 @@
 use Rattle.std.specs.Prelude.{[], ◌∷◌, ◌++◌, codes}
 use Rattle.store_map.specs.declared.reply.Reply.TheVariants as reply
 use Rattle.store_map.specs.declared.call_name.CallName.TheVariants as name
-use Rattle.store_core.specs.RowLines.{replied, took}
+use Rattle.store_core.specs.RowLines.{client, repair, replied, took}
 use Rattle.store_core.specs.RowsCalls.{put_then_get}
 use Rattle.hist_rules.specs.declared.verdict.Verdict.TheVariants.{Misplaced}
 use Rattle.check_tests.specs.Judged.{Faulty}
@@ -12,8 +12,8 @@ abbrev pub call_too_many : Faulty
 call_too_many =
     record {
       script = put_then_get.script;
-      transcript = record put_then_get.transcript { history = put_then_get.transcript.history ++ replied 2 (name.Client 0 2) reply.NoSuch ∷ [] };
-      verdict = Misplaced (name.Client 0 2) 2 2;
+      transcript = record put_then_get.transcript { history = put_then_get.transcript.history ++ replied 2 (client 0 2) reply.NoSuch ∷ [] };
+      verdict = Misplaced (name.Client (client 0 2)) 2 2;
       line = codes "misplaced c0.2 2 2\n";
     }
 
@@ -22,8 +22,8 @@ abbrev pub actor_too_many : Faulty
 actor_too_many =
     record {
       script = put_then_get.script;
-      transcript = record put_then_get.transcript { takes = put_then_get.transcript.takes ++ took (name.Repairer 0 0) (4 ∷ 4 ∷ 0 ∷ 0 ∷ []) ∷ [] };
-      verdict = Misplaced (name.Repairer 0 0) 0 0;
+      transcript = record put_then_get.transcript { takes = put_then_get.transcript.takes ++ took (name.Repairer (repair 0 0)) (4 ∷ 4 ∷ 0 ∷ 0 ∷ []) ∷ [] };
+      verdict = Misplaced (name.Repairer (repair 0 0)) 0 0;
       line = codes "misplaced r0.0 0 0\n";
     }
 
@@ -32,8 +32,8 @@ abbrev pub point_twice : Faulty
 point_twice =
     record {
       script = put_then_get.script;
-      transcript = record put_then_get.transcript { history = replied 3 (name.Client 0 0) reply.Done ∷ replied 3 (name.Client 0 1) reply.NoSuch ∷ [] };
-      verdict = Misplaced (name.Client 0 1) 3 3;
+      transcript = record put_then_get.transcript { history = replied 3 (client 0 0) reply.Done ∷ replied 3 (client 0 1) reply.NoSuch ∷ [] };
+      verdict = Misplaced (name.Client (client 0 1)) 3 3;
       line = codes "misplaced c0.1 3 3\n";
     }
 
@@ -42,7 +42,7 @@ abbrev pub calls_swapped : Faulty
 calls_swapped =
     record {
       script = put_then_get.script;
-      transcript = record put_then_get.transcript { history = replied 0 (name.Client 0 1) reply.NoSuch ∷ replied 1 (name.Client 0 0) reply.Done ∷ [] };
-      verdict = Misplaced (name.Client 0 0) 1 0;
+      transcript = record put_then_get.transcript { history = replied 0 (client 0 1) reply.NoSuch ∷ replied 1 (client 0 0) reply.Done ∷ [] };
+      verdict = Misplaced (name.Client (client 0 0)) 1 0;
       line = codes "misplaced c0.0 1 0\n";
     }

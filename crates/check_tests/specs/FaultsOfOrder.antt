@@ -3,7 +3,7 @@ use Rattle.std.specs.Prelude.{[], ◌∷◌, codes}
 use Rattle.store_map.specs.declared.reply.Reply.TheVariants as reply
 use Rattle.store_map.specs.declared.call_name.CallName.TheVariants as name
 use Rattle.store_map.specs.declared.cause.Cause.TheVariants as cause
-use Rattle.store_core.specs.RowLines.{replied, refused, unanswered}
+use Rattle.store_core.specs.RowLines.{client, replied, refused, unanswered}
 use Rattle.store_core.specs.RowsCalls.{put_then_get}
 use Rattle.store_core.specs.RowsGivenUp.{left_after_commit}
 use Rattle.hist_rules.specs.declared.verdict.Verdict.TheVariants.{Misplaced}
@@ -14,8 +14,8 @@ abbrev pub answer_left_out : Faulty
 answer_left_out =
     record {
       script = put_then_get.script;
-      transcript = record put_then_get.transcript { history = replied 1 (name.Client 0 1) reply.NoSuch ∷ []; objects = []; takes = [] };
-      verdict = Misplaced (name.Client 0 1) 0 1;
+      transcript = record put_then_get.transcript { history = replied 1 (client 0 1) reply.NoSuch ∷ []; objects = []; takes = [] };
+      verdict = Misplaced (name.Client (client 0 1)) 0 1;
       line = codes "misplaced c0.1 0 1\n";
     }
 
@@ -24,8 +24,8 @@ abbrev pub answered_twice : Faulty
 answered_twice =
     record {
       script = put_then_get.script;
-      transcript = record put_then_get.transcript { refused = refused (name.Client 0 0) cause.NoMemory ∷ [] };
-      verdict = Misplaced (name.Client 0 0) 1 0;
+      transcript = record put_then_get.transcript { refused = refused (client 0 0) cause.NoMemory ∷ [] };
+      verdict = Misplaced (name.Client (client 0 0)) 1 0;
       line = codes "misplaced c0.0 1 0\n";
     }
 
@@ -35,7 +35,7 @@ open_call_left_out =
     record {
       script = left_after_commit.script;
       transcript = record left_after_commit.transcript { unanswered = [] };
-      verdict = Misplaced (name.Client 0 0) 0 1;
+      verdict = Misplaced (name.Client (client 0 0)) 0 1;
       line = codes "misplaced c0.0 0 1\n";
     }
 
@@ -44,7 +44,7 @@ abbrev pub answered_and_open : Faulty
 answered_and_open =
     record {
       script = put_then_get.script;
-      transcript = record put_then_get.transcript { unanswered = unanswered (name.Client 0 1) ∷ [] };
-      verdict = Misplaced (name.Client 0 1) 2 1;
+      transcript = record put_then_get.transcript { unanswered = unanswered (name.Client (client 0 1)) ∷ [] };
+      verdict = Misplaced (name.Client (client 0 1)) 2 1;
       line = codes "misplaced c0.1 2 1\n";
     }

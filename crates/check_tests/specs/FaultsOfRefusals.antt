@@ -4,14 +4,14 @@ use Rattle.store_map.specs.declared.call_name.CallName.TheVariants as name
 use Rattle.store_map.specs.declared.cause.Triple.{Triple}
 use Rattle.store_map.specs.declared.cause.Cause.TheVariants as cause
 use Rattle.store_map.specs.declared.transcript.Transcript.{Transcript}
-use Rattle.store_core.specs.RowLines.{refused, triple}
+use Rattle.store_core.specs.RowLines.{client, refused, triple}
 use Rattle.store_core.specs.RowsManyLosses.{read_after_three_losses}
 use Rattle.hist_rules.specs.declared.verdict.Verdict.TheVariants.{BadCause}
 use Rattle.check_tests.specs.Judged.{Faulty}
 
 -- the read after three losses, refused with these servers
 abbrev pub refused_with : List Triple → Transcript
-refused_with missing = record read_after_three_losses.transcript { refused = refused (name.Client 0 1) (cause.Unavailable 0 missing) ∷ [] }
+refused_with missing = record read_after_three_losses.transcript { refused = refused (client 0 1) (cause.Unavailable 0 missing) ∷ [] }
 
 -- two servers, where the code can spare two
 abbrev pub too_few_servers : Faulty
@@ -19,7 +19,7 @@ too_few_servers =
     record {
       script = read_after_three_losses.script;
       transcript = refused_with (triple 0 0 1 ∷ triple 1 0 1 ∷ []);
-      verdict = BadCause (name.Client 0 1) 3 2;
+      verdict = BadCause (name.Client (client 0 1)) 3 2;
       line = codes "cause c0.1 3 2\n";
     }
 
@@ -29,7 +29,7 @@ never_emptied =
     record {
       script = read_after_three_losses.script;
       transcript = refused_with (triple 0 0 1 ∷ triple 1 0 1 ∷ triple 2 0 2 ∷ []);
-      verdict = BadCause (name.Client 0 1) 1 2;
+      verdict = BadCause (name.Client (client 0 1)) 1 2;
       line = codes "cause c0.1 1 2\n";
     }
 
@@ -39,7 +39,7 @@ server_twice =
     record {
       script = read_after_three_losses.script;
       transcript = refused_with (triple 0 0 1 ∷ triple 1 0 1 ∷ triple 1 0 1 ∷ []);
-      verdict = BadCause (name.Client 0 1) 3 2;
+      verdict = BadCause (name.Client (client 0 1)) 3 2;
       line = codes "cause c0.1 3 2\n";
     }
 
@@ -49,7 +49,7 @@ server_too_many =
     record {
       script = read_after_three_losses.script;
       transcript = refused_with (triple 0 0 1 ∷ triple 1 0 1 ∷ triple 4 0 1 ∷ []);
-      verdict = BadCause (name.Client 0 1) 4 4;
+      verdict = BadCause (name.Client (client 0 1)) 4 4;
       line = codes "cause c0.1 4 4\n";
     }
 
@@ -59,7 +59,7 @@ placed_later =
     record {
       script = read_after_three_losses.script;
       transcript = refused_with (triple 0 0 1 ∷ triple 1 1 1 ∷ triple 2 0 1 ∷ []);
-      verdict = BadCause (name.Client 0 1) 1 1;
+      verdict = BadCause (name.Client (client 0 1)) 1 1;
       line = codes "cause c0.1 1 1\n";
     }
 
@@ -69,7 +69,7 @@ refused_put_of_form_one =
     record {
       script = read_after_three_losses.script;
       transcript =
-          record (refused_with []) { history = []; objects = []; refused = refused (name.Client 0 0) (cause.Unavailable 0 (triple 0 0 1 ∷ triple 1 0 1 ∷ triple 2 0 1 ∷ [])) ∷ [] };
-      verdict = BadCause (name.Client 0 0) 0 1;
+          record (refused_with []) { history = []; objects = []; refused = refused (client 0 0) (cause.Unavailable 0 (triple 0 0 1 ∷ triple 1 0 1 ∷ triple 2 0 1 ∷ [])) ∷ [] };
+      verdict = BadCause (name.Client (client 0 0)) 0 1;
       line = codes "cause c0.0 0 1\n";
     }

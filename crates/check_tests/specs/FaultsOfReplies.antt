@@ -3,7 +3,7 @@ use Rattle.std.specs.Prelude.{[], ◌∷◌, ◌++◌, None, Some, codes}
 use Rattle.store_map.specs.declared.reply.Reply.TheVariants as reply
 use Rattle.store_map.specs.declared.call_name.CallName.TheVariants as name
 use Rattle.store_map.specs.declared.shown.Shown.TheVariants as shown
-use Rattle.store_core.specs.RowLines.{replied, unfinished, listed}
+use Rattle.store_core.specs.RowLines.{client, replied, unfinished, listed}
 use Rattle.store_core.specs.RowsCalls.{put_then_get}
 use Rattle.hist_rules.specs.declared.verdict.Verdict.TheVariants.{Differs, BadObject}
 use Rattle.check_tests.specs.Judged.{Faulty}
@@ -13,8 +13,8 @@ abbrev pub other_bytes : Faulty
 other_bytes =
     record {
       script = put_then_get.script;
-      transcript = record put_then_get.transcript { history = replied 0 (name.Client 0 0) reply.Done ∷ replied 1 (name.Client 0 1) (reply.Bytes (2 ∷ 0 ∷ 0 ∷ 0 ∷ 0 ∷ 0 ∷ 0 ∷ 0 ∷ [])) ∷ [] };
-      verdict = Differs (name.Client 0 1) (reply.Bytes (1 ∷ 0 ∷ 0 ∷ 0 ∷ 0 ∷ 0 ∷ 0 ∷ 0 ∷ [])) (shown.Reply (reply.Bytes (2 ∷ 0 ∷ 0 ∷ 0 ∷ 0 ∷ 0 ∷ 0 ∷ 0 ∷ [])));
+      transcript = record put_then_get.transcript { history = replied 0 (client 0 0) reply.Done ∷ replied 1 (client 0 1) (reply.Bytes (2 ∷ 0 ∷ 0 ∷ 0 ∷ 0 ∷ 0 ∷ 0 ∷ 0 ∷ [])) ∷ [] };
+      verdict = Differs (name.Client (client 0 1)) (reply.Bytes (1 ∷ 0 ∷ 0 ∷ 0 ∷ 0 ∷ 0 ∷ 0 ∷ 0 ∷ [])) (shown.Reply (reply.Bytes (2 ∷ 0 ∷ 0 ∷ 0 ∷ 0 ∷ 0 ∷ 0 ∷ 0 ∷ [])));
       line = codes "differs c0.1 expected bytes hex:0100000000000000 got bytes hex:0200000000000000\n";
     }
 
@@ -23,8 +23,8 @@ abbrev pub open_read : Faulty
 open_read =
     record {
       script = put_then_get.script;
-      transcript = record put_then_get.transcript { history = replied 0 (name.Client 0 0) reply.Done ∷ unfinished 1 (name.Client 0 1) ∷ [] };
-      verdict = Differs (name.Client 0 1) (reply.Bytes (1 ∷ 0 ∷ 0 ∷ 0 ∷ 0 ∷ 0 ∷ 0 ∷ 0 ∷ [])) shown.Unfinished;
+      transcript = record put_then_get.transcript { history = replied 0 (client 0 0) reply.Done ∷ unfinished 1 (client 0 1) ∷ [] };
+      verdict = Differs (name.Client (client 0 1)) (reply.Bytes (1 ∷ 0 ∷ 0 ∷ 0 ∷ 0 ∷ 0 ∷ 0 ∷ 0 ∷ [])) shown.Unfinished;
       line = codes "differs c0.1 expected bytes hex:0100000000000000 got open\n";
     }
 

@@ -4,7 +4,7 @@ use Rattle.store_map.specs.declared.actor.Token.TheVariants as token
 use Rattle.store_map.specs.declared.call_name.CallName.TheVariants as name
 use Rattle.store_map.specs.declared.cause.Cause.TheVariants as cause
 use Rattle.store_map.specs.declared.cause.RepairResult.TheVariants as result
-use Rattle.store_core.specs.RowLines.{refused, repaired, triple, away}
+use Rattle.store_core.specs.RowLines.{client, repair, refused, repaired, triple, away}
 use Rattle.store_core.specs.RowsCalls.{put_then_get}
 use Rattle.store_core.specs.RowsGivenUp.{reaped_before_commit}
 use Rattle.store_core.specs.RowsRebuilds.{superseded_rebuild}
@@ -19,7 +19,7 @@ given_up_by_nobody =
     record {
       script = put_then_get.script;
       transcript = reaped_before_commit.transcript;
-      verdict = BadCause (name.Client 0 0) 0 1;
+      verdict = BadCause (name.Client (client 0 0)) 0 1;
       line = codes "cause c0.0 0 1\n";
     }
 
@@ -28,8 +28,8 @@ abbrev pub given_up_twice : Faulty
 given_up_twice =
     record {
       script = reaped_before_commit.script;
-      transcript = record reaped_before_commit.transcript { history = []; refused = refused (name.Client 0 0) (cause.Reaped 0) ∷ refused (name.Client 0 1) (cause.Reaped 1) ∷ [] };
-      verdict = BadCause (name.Client 0 1) 1 2;
+      transcript = record reaped_before_commit.transcript { history = []; refused = refused (client 0 0) (cause.Reaped 0) ∷ refused (client 0 1) (cause.Reaped 1) ∷ [] };
+      verdict = BadCause (name.Client (client 0 1)) 1 2;
       line = codes "cause c0.1 1 2\n";
     }
 
@@ -38,8 +38,8 @@ abbrev pub superseded_by_nothing : Faulty
 superseded_by_nothing =
     record {
       script = superseded_rebuild.script;
-      transcript = record superseded_rebuild.transcript { repairs = repaired (name.Repairer 0 0) (result.Superseded 2) ∷ [] };
-      verdict = BadCause (name.Repairer 0 0) 1 0;
+      transcript = record superseded_rebuild.transcript { repairs = repaired (repair 0 0) (result.Superseded 2) ∷ [] };
+      verdict = BadCause (name.Repairer (repair 0 0)) 1 0;
       line = codes "cause r0.0 1 0\n";
     }
 
@@ -48,8 +48,8 @@ abbrev pub other_stripe : Faulty
 other_stripe =
     record {
       script = record superseded_rebuild.script { schedule = token.Wipe 0 ∷ token.Wipe 1 ∷ token.Wipe 2 ∷ token.Drain ∷ [] };
-      transcript = record superseded_rebuild.transcript { repairs = repaired (name.Repairer 0 0) (result.Unavailable 1 (triple 0 0 1 ∷ triple 1 0 1 ∷ triple 2 0 1 ∷ [])) ∷ [] };
-      verdict = BadCause (name.Repairer 0 0) 0 1;
+      transcript = record superseded_rebuild.transcript { repairs = repaired (repair 0 0) (result.Unavailable 1 (triple 0 0 1 ∷ triple 1 0 1 ∷ triple 2 0 1 ∷ [])) ∷ [] };
+      verdict = BadCause (name.Repairer (repair 0 0)) 0 1;
       line = codes "cause r0.0 0 1\n";
     }
 
@@ -58,8 +58,8 @@ abbrev pub target_never_away : Faulty
 target_never_away =
     record {
       script = rebuild_of_an_away_server.script;
-      transcript = record rebuild_of_an_away_server.transcript { repairs = repaired (name.Repairer 0 0) (result.Away 2) ∷ [] };
-      verdict = BadCause (name.Repairer 0 0) 1 2;
+      transcript = record rebuild_of_an_away_server.transcript { repairs = repaired (repair 0 0) (result.Away 2) ∷ [] };
+      verdict = BadCause (name.Repairer (repair 0 0)) 1 2;
       line = codes "cause r0.0 1 2\n";
     }
 
@@ -69,7 +69,7 @@ never_away =
     record {
       script = away_twice_and_emptied.script;
       transcript =
-          record away_twice_and_emptied.transcript { refused = refused (name.Client 0 1) (cause.Unavailable 0 (away 0 (placement.At 0) 1 ∷ away 1 (placement.At 0) 2 ∷ triple 2 0 1 ∷ [])) ∷ [] };
-      verdict = BadCause (name.Client 0 1) 1 2;
+          record away_twice_and_emptied.transcript { refused = refused (client 0 1) (cause.Unavailable 0 (away 0 (placement.At 0) 1 ∷ away 1 (placement.At 0) 2 ∷ triple 2 0 1 ∷ [])) ∷ [] };
+      verdict = BadCause (name.Client (client 0 1)) 1 2;
       line = codes "cause c0.1 1 2\n";
     }

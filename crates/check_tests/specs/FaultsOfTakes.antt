@@ -2,7 +2,7 @@
 use Rattle.std.specs.Prelude.{[], ◌∷◌, codes}
 use Rattle.store_map.specs.declared.reply.Reply.TheVariants as reply
 use Rattle.store_map.specs.declared.call_name.CallName.TheVariants as name
-use Rattle.store_core.specs.RowLines.{replied, server}
+use Rattle.store_core.specs.RowLines.{client, repair, replied, server}
 use Rattle.store_core.specs.RowsCalls.{put_then_get}
 use Rattle.store_core.specs.RowsRebuilds.{superseded_rebuild}
 use Rattle.hist_rules.specs.declared.verdict.Verdict.TheVariants.{Unlisted, BadSums}
@@ -13,8 +13,8 @@ abbrev pub read_left_out : Faulty
 read_left_out =
     record {
       script = put_then_get.script;
-      transcript = record put_then_get.transcript { history = replied 0 (name.Client 0 0) reply.Done ∷ [] };
-      verdict = Unlisted (name.Client 0 1);
+      transcript = record put_then_get.transcript { history = replied 0 (client 0 0) reply.Done ∷ [] };
+      verdict = Unlisted (name.Client (client 0 1));
       line = codes "tail open expected O c0.1 got -\n";
     }
 
@@ -24,7 +24,7 @@ rebuild_left_out =
     record {
       script = superseded_rebuild.script;
       transcript = record superseded_rebuild.transcript { repairs = [] };
-      verdict = Unlisted (name.Repairer 0 0);
+      verdict = Unlisted (name.Repairer (repair 0 0));
       line = codes "tail open expected O r0.0 got -\n";
     }
 
