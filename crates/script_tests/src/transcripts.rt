@@ -2,8 +2,8 @@
 use std::alloc::{AllocError, Global};
 use std::test::Fail;
 use store_map::{
-    CallName, Cause, Found, GLine, HLine, LLine, ListOf, Name, OLine, Placement, RLine,
-    RepairResult, Reply, Shown, TLine, Transcript, Triple, XLine,
+    CallName, Cause, ClientCall, Found, GLine, HLine, LLine, ListOf, Name, OLine, Placement, RLine,
+    RepairCall, RepairResult, Reply, Shown, TLine, Transcript, Triple, XLine,
 };
 use text_tables::faults::same;
 use transcript_text::write_transcript;
@@ -39,19 +39,19 @@ T 23 18446744073709551615 0 2
 end
 ";
 
-fn client(actor: u32, number: u32) -> CallName {
-    CallName::Client { actor, number }
+fn client(client: u32, number: u32) -> ClientCall {
+    ClientCall { client, number }
 }
 
-fn repairer(actor: u32, number: u32) -> CallName {
-    CallName::Repairer { actor, number }
+fn repair(repairer: u32, number: u32) -> RepairCall {
+    RepairCall { repairer, number }
 }
 
 // Each list is filled where it stands, since a function that owns a list beside others that may fail is dear to prove.
 fn add_reply(
     lines: &mut ListOf<HLine>,
     point: u64,
-    call: CallName,
+    call: ClientCall,
     reply: Shown,
 ) -> Result<(), AllocError> {
     lines.push(HLine { point, call, reply })
@@ -61,7 +61,7 @@ fn add_bytes(
     alloc: Global,
     lines: &mut ListOf<HLine>,
     point: u64,
-    call: CallName,
+    call: ClientCall,
     bytes: &[u8],
 ) -> Result<(), AllocError> {
     let bytes = ListOf::from_vec(Vec::from_slice(alloc, bytes)?);
@@ -115,7 +115,7 @@ fn add_repair(
     came: RepairResult,
 ) -> Result<(), AllocError> {
     lines.push(RLine {
-        call: repairer(0, number),
+        call: repair(0, number),
         result: came,
     })
 }
@@ -133,9 +133,11 @@ fn add_repairs(alloc: Global, lines: &mut ListOf<RLine>) -> Result<(), AllocErro
 }
 
 fn add_unanswered(lines: &mut ListOf<OLine>) -> Result<(), AllocError> {
-    lines.push(OLine { call: client(0, 7) })?;
     lines.push(OLine {
-        call: repairer(15, 4095),
+        call: CallName::Client(client(0, 7)),
+    })?;
+    lines.push(OLine {
+        call: CallName::Repairer(repair(15, 4095)),
     })
 }
 
@@ -151,7 +153,7 @@ fn add_object(
 
 fn add_takes(alloc: Global, lines: &mut ListOf<GLine>) -> Result<(), AllocError> {
     let takes = ListOf::from_vec(vec![in alloc; 4, 4, 0, 0]?);
-    let call = client(0, 1);
+    let call = CallName::Client(client(0, 1));
     lines.push(GLine { call, takes })
 }
 
