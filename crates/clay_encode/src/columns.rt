@@ -1,5 +1,5 @@
 //! The uncoupled values: those that the stripe gives, and those of the last column.
-ghost use Rattle.std.specs.Prelude.{◌≡◌, ℕ, ◌+◌, ◌*◌, ◌^◌, ◌<◌, slice_index, length, IfOk, replicate, false, nat_lt, not, slice_index_or};
+ghost use Rattle.std.specs.Prelude.{◌≡◌, ℕ, ◌+◌, ◌*◌, ◌^◌, ◌<◌, slice_index, length, IfOk, OnOk, replicate, false, nat_lt, not, slice_index_or};
 ghost use Rattle.clay_grid.specs.Shape.{row_count, node_count, layer_count, stripe_length};
 ghost use Rattle.clay_grid.specs.Layers.{layer_of};
 ghost use Rattle.clay_grid.specs.Limits.{IsGeometry};
@@ -152,6 +152,28 @@ fn solve_layers(
     }
 }
 
+// The same, with rooms that it allocates.
+fn solve_in_rooms(
+    alloc: Global,
+    g: Geometry,
+    stripe: &[u8],
+    last: &LastColumn,
+    column: &mut [u8],
+) -> Result<(), AllocError>
+    requires whole { length stripe.now ≡ stripe_length g }
+    requires last_column { IsLastColumn g last.now.solver last.now.erased.items }
+    requires column_len { length column.old ≡ layer_count g * (row_count g * g.width) }
+    ensures bytes { OnOk result ((i : ℕ) → slice_index column.new i < 2 ^ 8) }
+    ensures value { OnOk result ((n : ℕ) → n < layer_count g → IsSolved g stripe.now n column.new) }
+{
+    let w = g.w() as usize;
+    let no_bytes = zeros(alloc, w)?;
+    let mut layer = zeros(alloc, g.nodes() as usize * w)?;
+    let mut sums = zeros(alloc, g.m() as usize * w)?;
+    solve_layers(g, stripe, &no_bytes, last, &mut layer, &mut sums, column);
+    Ok(())
+}
+
 /// The uncoupled values of the last column, layer after layer: `w` bytes for each of its `q` rows.
 pub fn solve_last_column(alloc: Global, g: Geometry, stripe: &[u8]) -> Result<Vec<u8>, AllocError>
     requires { length stripe.now ≡ stripe_length g }
@@ -159,21 +181,9 @@ pub fn solve_last_column(alloc: Global, g: Geometry, stripe: &[u8]) -> Result<Ve
     ensures bytes { IfOk result (λ v. (i : ℕ) → slice_index v.items i < 2 ^ 8) }
     ensures value { IfOk result (λ v. (n : ℕ) → n < layer_count g → IsSolved g stripe.now n v.items) }
 {
-    let w = g.w() as usize;
-    let part = g.m() as usize * w;
-    let last = last_column(alloc, g)?;
-    let no_bytes = zeros(alloc, w)?;
-    let mut layer = zeros(alloc, g.nodes() as usize * w)?;
-    let mut sums = zeros(alloc, part)?;
+    let part = g.m() as usize * g.w() as usize;
     let mut column = zeros(alloc, g.alpha() as usize * part)?;
-    solve_layers(
-        g,
-        stripe,
-        &no_bytes,
-        &last,
-        &mut layer,
-        &mut sums,
-        &mut column,
-    );
+    let last = last_column(alloc, g)?;
+    solve_in_rooms(alloc, g, stripe, &last, &mut column)?;
     Ok(column)
 }

@@ -6,11 +6,11 @@ use Rattle.clay_encode.proofs.columns.solve_last_column.Goals as goal
 pub returns-clause-bytes : goal.returns-clause-bytes
 returns-clause-bytes c = λ i.
     let column = c.in_ok-column.column in
-    let long : length c.solve_layers.new.column ≡ length column.items = omega arith in
-    subst (λ l. get_or l i 0 < 2 ^ 8) (sym (written_whole column.len column.items c.solve_layers.new.column (omega arith) long)) (c.solve_layers.ensures.bytes i)
+    let long : length c.solve_in_rooms.new.column ≡ length column.items = omega arith in
+    subst (λ l. get_or l i 0 < 2 ^ 8) (sym (written_whole column.len column.items c.solve_in_rooms.new.column (omega arith) long)) (c.in_ok-solve_in_rooms.ensures.bytes i)
 
 pub returns-clause-value : goal.returns-clause-value
 returns-clause-value c = λ n h.
     let column = c.in_ok-column.column in
-    let long : length c.solve_layers.new.column ≡ length column.items = omega arith in
-    subst (IsSolved c.args.g c.args.stripe.now n) (sym (written_whole column.len column.items c.solve_layers.new.column (omega arith) long)) (c.solve_layers.ensures.value n h)
+    let long : length c.solve_in_rooms.new.column ≡ length column.items = omega arith in
+    subst (IsSolved c.args.g c.args.stripe.now n) (sym (written_whole column.len column.items c.solve_in_rooms.new.column (omega arith) long)) (c.in_ok-solve_in_rooms.ensures.value n h)
