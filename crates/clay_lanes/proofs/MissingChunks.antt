@@ -1,6 +1,6 @@
 -- The numbers of the missing chunks, and the missing chunks and the others put together.
 -- The present chunks are inserted at their numbers; the invariant is "the first c chunks, then the missing ones from c on".
-use Rattle.std.proofs.Common.{◌≡◌, ◌≢◌, ℕ, suc, subst, ◌+◌, ◌-◌, ◌*◌, ◌/◌, ◌%◌, ◌<◌, ◌≤◌, true, false, cond, List, [], ◌∷◌, ◌++◌, length, get_or, set, take, drop, map, Option, Some, None, is_none, Vec, Global, All, IfSome, inl, inr, refl, sym, ap, ◌∙◌, arith, append_assoc}
+use Rattle.std.proofs.Common.{◌≡◌, ◌≢◌, ℕ, suc, subst, ◌+◌, ◌-◌, ◌*◌, ◌/◌, ◌%◌, ◌<◌, ◌≤◌, true, false, cond, List, [], ◌∷◌, ◌++◌, length, get_or, set, take, drop, map, Option, Some, None, is_none, Vec, Global, All, IfSome, Result, Ok, Err, OnOk, inl, inr, refl, sym, ap, ◌∙◌, arith, append_assoc}
 use Rattle.std.specs.List.{insert}
 use Rattle.std.proofs.lemmas.Bool.{true≢false, cases_eq}
 use Rattle.std.proofs.lemmas.Nat.{mod_below, div_below, div-add-mod'}
@@ -31,6 +31,11 @@ missing_below have i h = ((Lists-filter (λ c. is_none (get_or have c None)) (le
 
 pub missing_none : {A : Type 0} (have : List (Option A)) (i : ℕ) → i < length (missing_of have) → get_or have (get_or (missing_of have) i 0) None ≡ None
 missing_none have i h = none_of (get_or have (get_or (missing_of have) i 0) None) ((Lists-filter (λ c. is_none (get_or have c None)) (length have)).only i h).1
+
+-- what follows from two facts of a call that succeeds
+pub on_both : {T E P Q R : Type 0} (r : Result T E) → OnOk r P → OnOk r Q → (P → Q → R) → OnOk r R
+on_both (Ok x) p q f = f p q
+on_both (Err e) p q f = p
 
 -- chunks that have each byte of the missing ones
 pub found_chunks : (g : Shape) (have : List (Option (Vec ℕ Global))) (chunks : List (List ℕ)) → 0 < g.width → length have ≡ chunk_count g → length chunks ≡ length (missing_of have)

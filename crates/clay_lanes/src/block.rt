@@ -1,8 +1,12 @@
 //! A block of byte positions of the chunks that are there.
+ghost use Rattle.std.specs.Prelude.{◌≡◌, ◌*◌, ◌≤◌, length, IfOk};
+ghost use Rattle.clay_grid.specs.Shape.{layer_count};
 
 use crate::plan::Plan;
 use clay_grid::Geometry;
+use clay_kernels::zeros;
 use lane_repair::ChunkView;
+use std::alloc::{AllocError, Global};
 
 /// What is read at `len` byte positions of each subchunk, from `at` on.
 #[derive(Clone, Copy)]
@@ -14,4 +18,36 @@ pub struct Block<'a> {
     pub plan: &'a Plan,
     pub at: usize,
     pub len: usize,
+}
+
+/// Rooms for the values that a block is solved with.
+#[derive(Drop)]
+pub struct Rooms {
+    /// For those of one node.
+    pub values: Vec<u8>,
+    /// For those of the erased nodes in one layer.
+    pub rows: Vec<u8>,
+    /// For those of the erased nodes in all layers.
+    pub solved: Vec<u8>,
+}
+
+impl Rooms {
+    /// The rooms for a block of `len` byte positions.
+    pub fn new(alloc: Global, g: Geometry, plan: &Plan, len: usize) -> Result<Rooms, AllocError>
+        requires few { length plan.now.points.items ≤ g.parity_count }
+        requires within { len ≤ g.width }
+        ensures values_len { IfOk result (λ rooms. length rooms.values.items ≡ len) }
+        ensures rows_len { IfOk result (λ rooms. length rooms.rows.items ≡ length plan.now.points.items * len) }
+        ensures solved_len { IfOk result (λ rooms. length rooms.solved.items ≡ layer_count g * (length plan.now.points.items * len)) }
+    {
+        let part = plan.points.len() * len;
+        let values = zeros(alloc, len)?;
+        let rows = zeros(alloc, part)?;
+        let solved = zeros(alloc, g.alpha() as usize * part)?;
+        Ok(Rooms {
+            values,
+            rows,
+            solved,
+        })
+    }
 }

@@ -9,7 +9,7 @@ mod lost;
 mod places;
 mod plan;
 
-pub use block::Block;
+pub use block::{Block, Rooms};
 pub use checked::decode_checked;
 pub use clay_parity::{Prepared, encode, parity, parity_into};
 pub use coder::LaneCoder;

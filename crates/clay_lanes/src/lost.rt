@@ -1,5 +1,5 @@
 //! The missing chunks, a block of bytes of each subchunk after another.
-ghost use Rattle.std.specs.Prelude.{◌≡◌, ℕ, ◌+◌, ◌*◌, ◌<◌, ◌≤◌, ◌↔◌, length, min, IfOk, IsErrOf, All, get_or, slice_index_or, true, false, count_by, is_none, None};
+ghost use Rattle.std.specs.Prelude.{◌≡◌, ℕ, ◌+◌, ◌*◌, ◌<◌, ◌≤◌, ◌↔◌, length, min, IfOk, OnOk, IsErrOf, All, get_or, slice_index_or, true, false, count_by, is_none, None};
 ghost use Rattle.clay_grid.specs.Shape.{chunk_count, node_count, layer_count, chunk_length};
 ghost use Rattle.clay_model.specs.Code.{AgreesWith};
 ghost use Rattle.clay_model.specs.Chunks.{contents};
@@ -9,7 +9,7 @@ ghost use Rattle.lane_repair.specs.Views.{pieces_of};
 ghost use Rattle.clay_lanes.specs.Recovered.{IsLanePlan, HoldsByteOf, KeepsBytes, HoldsLayersOf, HaveLength, missing_of, AreMissing};
 ghost use Rattle.clay_lanes.specs.Blocks.{IsBlock, rows_length, solved_length, row_bytes, solved_bytes, IsCoupledIn, HoldsLayersIn, HoldsChunkIn, KeepsBytesIn, HoldsChunksIn, KeepsChunksIn};
 
-use crate::block::Block;
+use crate::block::{Block, Rooms};
 use crate::plan::{Plan, make_plan};
 use clay_grid::Geometry;
 use clay_kernels::{BLOCK, couple, uncouple, zeros};
@@ -145,6 +145,31 @@ impl<'a> Block<'a> {
             from += len;
         }
     }
+
+    // The same, with rooms that it allocates.
+    fn recover_in_rooms(
+        &self,
+        alloc: Global,
+        lost: &[u32],
+        chunks: &mut [Vec<u8>],
+    ) -> Result<(), AllocError>
+        requires block { IsBlock self.now }
+        requires lost { lost.now ≡ missing_of (pieces_of self.now.have) }
+        requires chunk_count { length chunks.old ≡ length lost.now }
+        requires chunk_len { HaveLength (length chunks.old) (chunk_length self.now.g) (contents chunks.old) }
+        ensures chunk_len { OnOk result (HaveLength (length chunks.old) (chunk_length self.now.g) (contents chunks.new)) }
+        ensures written { OnOk result (HoldsChunksIn self.now lost.now (contents chunks.new)) }
+    {
+        let mut rooms = Rooms::new(alloc, self.g, self.plan, BLOCK.min(self.len))?;
+        self.recover_parts(
+            lost,
+            &mut rooms.values,
+            &mut rooms.rows,
+            &mut rooms.solved,
+            chunks,
+        );
+        Ok(())
+    }
 }
 
 /// Writes the bytes from `at` on of each subchunk of a missing chunk, as many as `len`.
@@ -205,6 +230,33 @@ fn zero_chunks(alloc: Global, count: usize, len: usize) -> Result<Vec<Vec<u8>>, 
     Ok(chunks)
 }
 
+// Writes the missing chunks, which are no more than there are parity chunks. `lost` has their numbers.
+fn write_missing(
+    alloc: Global,
+    g: Geometry,
+    have: &[Option<Vec<u8>>],
+    lost: &[u32],
+    chunks: &mut [Vec<u8>],
+) -> Result<(), AllocError>
+    requires count { length have.now ≡ chunk_count g }
+    requires lengths { AreLong (chunk_length g) have.now }
+    requires few { count_by is_none have.now ≤ g.parity_count }
+    requires lost { lost.now ≡ missing_of have.now }
+    requires chunk_count { length chunks.old ≡ length lost.now }
+    requires chunk_len { HaveLength (length chunks.old) (chunk_length g) (contents chunks.old) }
+    ensures { OnOk result (AreMissing g have.now (contents chunks.new)) }
+{
+    let plan = make_plan(alloc, g, have)?;
+    let block = Block {
+        g,
+        have: ChunkView::Apart(have),
+        plan: &plan,
+        at: 0,
+        len: g.w() as usize,
+    };
+    block.recover_in_rooms(alloc, lost, chunks)
+}
+
 // The missing chunks, which are no more than there are parity chunks.
 fn recover_missing(
     alloc: Global,
@@ -220,21 +272,8 @@ fn recover_missing(
     if lost.is_empty() {
         return Ok(Vec::new(alloc));
     }
-    let plan = make_plan(alloc, g, have)?;
-    let block = Block {
-        g,
-        have: ChunkView::Apart(have),
-        plan: &plan,
-        at: 0,
-        len: g.w() as usize,
-    };
-    let len = BLOCK.min(block.len);
-    let part = plan.points.len() * len;
-    let mut values = zeros(alloc, len)?;
-    let mut rows = zeros(alloc, part)?;
-    let mut solved = zeros(alloc, g.alpha() as usize * part)?;
     let mut chunks = zero_chunks(alloc, lost.len(), g.chunk_len() as usize)?;
-    block.recover_parts(&lost, &mut values, &mut rows, &mut solved, &mut chunks);
+    write_missing(alloc, g, have, &lost, &mut chunks)?;
     Ok(chunks)
 }
 

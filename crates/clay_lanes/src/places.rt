@@ -9,11 +9,11 @@ ghost use Rattle.clay_lanes.specs.Places.{AreFilled, AreFilledFrom, chunks_lengt
 ghost use Rattle.clay_lanes.specs.Standing.{starts_left, left_count, is_left_gone, left_pieces, pieces_around, IsRoom, IsRoomAround, StandInPlace};
 ghost use Rattle.clay_lanes.specs.Fillings.{IsPlanned, pieces_in, around_in, IsFilling, filling_rows, filling_layers, SolvesLayers, IsByteOf, FillsPlace, FillsPlaces, KeepsOthers};
 
-use crate::block::Block;
+use crate::block::{Block, Rooms};
 use crate::lost::missing_count;
 use crate::plan::{Plan, make_plan, plan_of};
 use clay_grid::Geometry;
-use clay_kernels::{BLOCK, zeros};
+use clay_kernels::BLOCK;
 use clay_model::DecodeFault;
 use lane_repair::ChunkView;
 use std::alloc::{AllocError, Global};
@@ -242,12 +242,13 @@ fn fill_all(
         at: 0,
         len: g.w() as usize,
     };
-    let len = BLOCK.min(filling.len);
-    let part = plan.points.len() * len;
-    let mut values = zeros(alloc, len)?;
-    let mut rows = zeros(alloc, part)?;
-    let mut solved = zeros(alloc, g.alpha() as usize * part)?;
-    filling.fill_parts(&mut values, &mut rows, &mut solved, chunks);
+    let mut rooms = Rooms::new(alloc, g, plan, BLOCK.min(filling.len))?;
+    filling.fill_parts(
+        &mut rooms.values,
+        &mut rooms.rows,
+        &mut rooms.solved,
+        chunks,
+    );
     Ok(())
 }
 
