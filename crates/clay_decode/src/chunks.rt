@@ -115,6 +115,26 @@ fn chunk(
     }
 }
 
+// All chunks, from the values of the erased nodes.
+fn all_chunks(
+    alloc: Global,
+    g: Geometry,
+    have: &[Option<Vec<u8>>],
+    plan: &Plan,
+    solved: &[u8],
+) -> Result<Vec<Vec<u8>>, AllocError>
+    requires plan { IsPlan g have.now plan.now }
+    requires solved { AreSolved g have.now plan.now solved.now }
+    ensures kept { IfOk result (λ chunks. AgreesWith (parts have.now) (contents chunks.items)) }
+    ensures recovered { IfOk result (λ chunks. AreRecovered g have.now (contents chunks.items)) }
+{
+    let mut chunks = Vec::with_capacity(alloc, g.n() as usize)?;
+    for c in 0..g.n() {
+        chunks.push(chunk(alloc, g, have, plan, solved, c)?)?;
+    }
+    Ok(chunks)
+}
+
 /// The chunks, of which no more are missing than there are parity chunks.
 pub fn recover(
     alloc: Global,
@@ -127,11 +147,7 @@ pub fn recover(
 {
     let plan = make_plan(alloc, g, have)?;
     let solved = solved_values(alloc, g, have, &plan)?;
-    let mut chunks = Vec::with_capacity(alloc, g.n() as usize)?;
-    for c in 0..g.n() {
-        chunks.push(chunk(alloc, g, have, &plan, &solved, c)?)?;
-    }
-    Ok(chunks)
+    all_chunks(alloc, g, have, &plan, &solved)
 }
 
 /// The number of chunks that are missing.

@@ -2,7 +2,7 @@ use Rattle.std.proofs.Common.{◌≡◌, ℕ, ◌<◌, List, [], length, get_or,
 use Rattle.clay_grid.specs.Shape.{chunk_length}
 use Rattle.clay_model.specs.Chunks.{contents}
 use Rattle.clay_model.specs.Left.{Completes}
-use Rattle.clay_decode.proofs.chunks.recover.Given as goal
+use Rattle.clay_decode.proofs.chunks.all_chunks.Given as goal
 
 abbrev pub invariant-loop-c : goal.invariant-loop-c
 invariant-loop-c l = record {

@@ -6,7 +6,7 @@ use Rattle.clay_grid.specs.Shape.{chunk_count, chunk_length}
 use Rattle.clay_model.specs.Chunks.{contents}
 use Rattle.code_laws.proofs.Lists.{contents_push, more_chunks}
 use Rattle.code_laws.proofs.Agreeing.{agrees_of}
-use Rattle.clay_decode.proofs.chunks.recover.Goals as goal
+use Rattle.clay_decode.proofs.chunks.all_chunks.Goals as goal
 
 -- one more chunk, which is kept too
 kept_more : (have : List (Option (Vec ℕ Global))) (chunks : List (List ℕ)) (new : List ℕ) (c : ℕ) → length chunks ≡ c
@@ -41,7 +41,7 @@ loop-c-preserved c =
 pub returns-clause-kept : goal.returns-clause-kept
 returns-clause-kept c =
     let total : c.loop-c.c ≡ chunk_count c.args.g = omega (arith, c.loop-c-test.false, c.loop-c.auto.c-end, c.n-c-end.ensures.value) in
-    agrees_of c.args.have.now (contents c.loop-c.chunks.items) (λ i h. c.loop-c.invariant.kept i (omega (arith, total, c.requires.count)))
+    agrees_of c.args.have.now (contents c.loop-c.chunks.items) (λ i h. c.loop-c.invariant.kept i (omega (arith, total, c.requires.plan.left.count)))
 
 pub returns-clause-recovered : goal.returns-clause-recovered
 returns-clause-recovered c =
