@@ -1,5 +1,5 @@
 //! The lost chunk, from parts of the others.
-ghost use Rattle.std.specs.Prelude.{◌≡◌, ◌≢◌, ℕ, ◌+◌, ◌*◌, ◌/◌, ◌<◌, ◌≤◌, length, IfOk};
+ghost use Rattle.std.specs.Prelude.{◌≡◌, ◌≢◌, ℕ, ◌+◌, ◌*◌, ◌/◌, ◌<◌, ◌≤◌, length, IfOk, OnOk};
 ghost use Rattle.clay_grid.specs.Shape.{row_count, node_count, node_of_chunk, chunk_length};
 ghost use Rattle.clay_model.specs.RepairParts.{AreParts, IsRebuilt};
 ghost use Rattle.code_laws.specs.Rebuilt.{IsReadFor, IsCoupled, IsUncoupled, HoldsOthers, HoldsColumn, HoldsSubchunk, HoldsRow, with_digit};
@@ -191,6 +191,27 @@ fn write_chunk(
     }
 }
 
+// The same, with rooms that it allocates.
+fn write_in_rooms(
+    alloc: Global,
+    g: Geometry,
+    parts: &[Option<Vec<u8>>],
+    plan: &Plan,
+    chunk: &mut [u8],
+) -> Result<(), AllocError>
+    requires plan { IsPlan g plan.now }
+    requires parts { AreParts g plan.now.lost parts.now }
+    requires chunk_len { length chunk.old ≡ chunk_length g }
+    ensures { OnOk result (IsRebuilt g plan.now.lost parts.now chunk.new) }
+{
+    let w = g.w() as usize;
+    let mut layer = zeros(alloc, g.nodes() as usize * w)?;
+    let mut sums = zeros(alloc, g.q() as usize * w)?;
+    let mut column = zeros(alloc, g.q() as usize * w)?;
+    write_chunk(g, parts, plan, &mut layer, &mut sums, &mut column, chunk);
+    Ok(())
+}
+
 /// The lost chunk of the codeword whose other chunks have these parts, where one does.
 ///
 /// `parts` has an entry for each chunk: `None` for the lost one, and for each other one its subchunks of the layers of
@@ -205,20 +226,8 @@ pub fn rebuild(
     requires { AreParts g lost parts.now }
     ensures { IfOk result (λ chunk. IsRebuilt g lost parts.now chunk.items) }
 {
+    let mut chunk = zeros(alloc, g.alpha() as usize * g.w() as usize)?;
     let plan = make_plan(alloc, g, lost)?;
-    let w = g.w() as usize;
-    let mut layer = zeros(alloc, g.nodes() as usize * w)?;
-    let mut sums = zeros(alloc, g.q() as usize * w)?;
-    let mut column = zeros(alloc, g.q() as usize * w)?;
-    let mut chunk = zeros(alloc, g.alpha() as usize * w)?;
-    write_chunk(
-        g,
-        parts,
-        &plan,
-        &mut layer,
-        &mut sums,
-        &mut column,
-        &mut chunk,
-    );
+    write_in_rooms(alloc, g, parts, &plan, &mut chunk)?;
     Ok(chunk)
 }
