@@ -8,8 +8,8 @@ ghost use Rattle.clay_lanes.specs.Blocks.{IsBlock, rows_length, solved_length, r
 ghost use Rattle.lane_slices.specs.Slices.{AreWritten};
 
 use clay_grid::Geometry;
-use clay_kernels::{BLOCK, zeros};
-use clay_lanes::{Block, ChunkView, plan_of};
+use clay_kernels::BLOCK;
+use clay_lanes::{Block, ChunkView, Rooms, plan_of};
 use std::alloc::{AllocError, Global};
 
 // Whether a view shows nothing of a chunk.
@@ -121,6 +121,33 @@ fn recover_parts(
     }
 }
 
+// The same, with rooms that it allocates.
+fn recover_in_rooms(
+    alloc: Global,
+    whole: &Block<'_>,
+    lost: &[u32],
+    slices: &mut [&mut [u8]],
+) -> Result<(), AllocError>
+    requires block { IsBlock whole.now }
+    requires lost { lost.now ≡ missing_of (pieces_of whole.now.have) }
+    requires count { length slices.old ≡ length lost.now }
+    requires lengths { HaveLength (length slices.old) (chunk_length whole.now.g) (map (λ slice. slice.now) slices.old) }
+    ensures lengths { OnOk result (HaveLength (length slices.old) (chunk_length whole.now.g) (map (λ slice. slice.now) slices.new)) }
+    ensures written { OnOk result (HoldsChunksIn whole.now lost.now (map (λ slice. slice.now) slices.new)) }
+    ensures kept { OnErr result (slices.new ≡ slices.old) }
+{
+    let mut rooms = Rooms::new(alloc, whole.g, whole.plan, BLOCK.min(whole.len))?;
+    recover_parts(
+        whole,
+        lost,
+        &mut rooms.values,
+        &mut rooms.rows,
+        &mut rooms.solved,
+        slices,
+    );
+    Ok(())
+}
+
 /// Writes the missing chunks of the codeword that has the chunks which a view shows, where one does: each to a slice of its own, by rising
 /// number.
 ///
@@ -152,11 +179,5 @@ pub fn recover_slices(
         at: 0,
         len: g.w() as usize,
     };
-    let len = BLOCK.min(block.len);
-    let part = plan.points.len() * len;
-    let mut values = zeros(alloc, len)?;
-    let mut rows = zeros(alloc, part)?;
-    let mut solved = zeros(alloc, g.alpha() as usize * part)?;
-    recover_parts(&block, &lost, &mut values, &mut rows, &mut solved, slices);
-    Ok(())
+    recover_in_rooms(alloc, &block, &lost, slices)
 }
