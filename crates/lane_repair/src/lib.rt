@@ -8,6 +8,6 @@ mod repair;
 mod repair_plan;
 mod view;
 
-pub use erased::is_column_erased;
+pub use erased::{erased_points, is_column_erased};
 pub use repair::{rebuild, rebuild_into};
 pub use view::ChunkView;

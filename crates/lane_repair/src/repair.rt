@@ -276,6 +276,63 @@ fn write_chunk(
     }
 }
 
+// Room for a block.
+#[derive(Drop)]
+struct Rooms {
+    // Of the values of one node.
+    values: Vec<u8>,
+    // Of the values of the four nodes of a column.
+    column: Vec<u8>,
+    // Of the values of the lost node's column.
+    rows: Vec<u8>,
+}
+
+impl Rooms {
+    // Room for the largest block.
+    fn new(alloc: Global, g: Geometry) -> Result<Rooms, AllocError>
+        ensures values_len { IfOk result (λ rooms. length rooms.values.items ≡ min g.width 4096) }
+        ensures rows_len { IfOk result (λ rooms. length rooms.rows.items ≡ row_count g * min g.width 4096) }
+    {
+        let len = BLOCK.min(g.w() as usize);
+        let values = zeros(alloc, len)?;
+        let column = zeros(alloc, 4 * len)?;
+        let rows = zeros(alloc, g.q() as usize * len)?;
+        Ok(Rooms {
+            values,
+            column,
+            rows,
+        })
+    }
+}
+
+// Writes the lost chunk by its plan.
+fn rebuild_by(
+    alloc: Global,
+    g: Geometry,
+    parts: ChunkView<'_>,
+    plan: &RepairPlan,
+    chunk: &mut [u8],
+) -> Result<(), AllocError>
+    requires plan { IsRepairPlan g plan.now }
+    requires parts { ArePieces g plan.now.lost (pieces_of parts) }
+    requires room { HasRoom parts }
+    requires chunk { length chunk.old ≡ chunk_length g }
+    ensures rebuilt { OnOk result (IsRebuiltFrom g plan.now.lost (pieces_of parts.entry) chunk.new) }
+    ensures kept { OnErr result (chunk.new ≡ chunk.old) }
+{
+    let mut rooms = Rooms::new(alloc, g)?;
+    write_chunk(
+        g,
+        parts,
+        plan,
+        &mut rooms.values,
+        &mut rooms.column,
+        &mut rooms.rows,
+        chunk,
+    );
+    Ok(())
+}
+
 /// Writes the lost chunk of the codeword whose other chunks have these parts, where one does.
 ///
 /// `parts` has each other chunk's subchunks of the repair layers in rising order, which are read where they stand. Where no codeword has
@@ -294,12 +351,7 @@ pub fn rebuild_into(
     ensures kept { OnErr result (chunk.new ≡ chunk.old) }
 {
     let plan = make_repair_plan(alloc, g, lost)?;
-    let len = BLOCK.min(g.w() as usize);
-    let mut values = zeros(alloc, len)?;
-    let mut column = zeros(alloc, 4 * len)?;
-    let mut rows = zeros(alloc, g.q() as usize * len)?;
-    write_chunk(g, parts, &plan, &mut values, &mut column, &mut rows, chunk);
-    Ok(())
+    rebuild_by(alloc, g, parts, &plan, chunk)
 }
 
 // The same from parts that are vectors.

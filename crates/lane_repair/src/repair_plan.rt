@@ -2,7 +2,9 @@
 ghost use Rattle.std.specs.Prelude.{◌≡◌, ℕ, ◌+◌, ◌*◌, ◌/◌, ◌%◌, ◌<◌, ◌≤◌, length, IfOk, eqb, slice_index, slice_index_or, false};
 ghost use Rattle.clay_grid.specs.Shape.{chunk_count, row_count, column_count, node_count, layer_count};
 ghost use Rattle.clay_grid.specs.Layers.{layer_of};
+ghost use Rattle.clay_grid.specs.Limits.{IsGeometry};
 ghost use Rattle.clay_grid.specs.Repair.{layers_with_digit};
+ghost use Rattle.generator_matrix.specs.Generated.{IsGeneratorOf};
 ghost use Rattle.lane_repair.specs.Repaired.{IsRepairPlan, column_nodes};
 
 use clay_grid::Geometry;
@@ -68,6 +70,16 @@ fn column_points(alloc: Global, g: Geometry, column: u32) -> Result<Vec<u8>, All
     Ok(points)
 }
 
+// The factors of every node in the values of a column.
+fn column_generator(alloc: Global, g: Geometry, column: u32) -> Result<Generator, AllocError>
+    requires geometry { IsGeometry g }
+    requires column { column < column_count g }
+    ensures { IfOk result (λ made. IsGeneratorOf g (column_nodes g column) made.unknown made.each) }
+{
+    let points = column_points(alloc, g, column)?;
+    generator_of(alloc, g, &points)
+}
+
 /// The plan for a lost chunk.
 pub fn make_repair_plan(alloc: Global, g: Geometry, lost: u32) -> Result<RepairPlan, AllocError>
     requires { lost < chunk_count g }
@@ -77,9 +89,8 @@ pub fn make_repair_plan(alloc: Global, g: Geometry, lost: u32) -> Result<RepairP
     let (row, column) = g.place(g.node_of_chunk(lost));
     let zeros = zeros(alloc, g.w() as usize)?;
     let erased = stand_in_column(alloc, g, column)?;
-    let points = column_points(alloc, g, column)?;
-    let generator = generator_of(alloc, g, &points)?;
     let layers = g.repair_layers(alloc, lost)?;
+    let generator = column_generator(alloc, g, column)?;
     Ok(RepairPlan {
         lost,
         row,
