@@ -19,6 +19,7 @@ use Rattle.clay_aloof.specs.Repair.{aloof_layers_of}
 use Rattle.clay_aloof.specs.Pieces.{PiecesFit, FitsPieces}
 use Rattle.clay_aloof.specs.Solved.{IsIn, Fits}
 use Rattle.clay_aloof.specs.Rebuilt.{is_unknown, IsGiven, IsRepairPlan, kept_layers, ArePut}
+use Rattle.clay_aloof.specs.Ordered.{AreKept}
 use Rattle.clay_aloof.specs.declared.layers.Plan.{Plan}
 use Rattle.clay_aloof.proofs.Layer.{some_rows}
 use Rattle.clay_aloof.proofs.Nodes.{node_back, coupled_real, coupled_virtual, coupled_byte}
@@ -55,12 +56,6 @@ partner_given a lost i n other p apart pair given =
     ∙ given
 
 -- the layers that are kept of an order by score
-pub record AreKept (a : AloofShape) (lost : ℕ) (erased : List Bool) (layers : List ℕ) : Type 0 where
-  pub rising : (i j : ℕ) → i < j → j < length layers → GoesBefore (grid_of a) erased (get_or layers i 0) (get_or layers j 0)
-  pub only_layers : (i : ℕ) → i < length layers → get_or layers i 0 < layer_count (grid_of a)
-  pub each_layer : (n : ℕ) → n < layer_count (grid_of a) → IsGiven a lost n → IsIn layers n
-  pub given : (n : ℕ) → IsIn layers n → IsGiven a lost n
-
 pub are_kept : (a : AloofShape) (lost : ℕ) (erased : List Bool) (order : List ℕ) → IsByScore (grid_of a) erased order
     → AreKept a lost erased (kept_layers (grid_of a) (node_of a lost % rows_of a) (node_of a lost / rows_of a) order)
 are_kept a lost erased order by =

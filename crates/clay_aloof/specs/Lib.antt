@@ -8,6 +8,7 @@ pub mod Coded
 pub mod Solved
 pub mod Encoded
 pub mod Rebuilt
+pub mod Ordered
 pub mod Worked
 pub mod Known
 pub mod Tables

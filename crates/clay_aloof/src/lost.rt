@@ -10,15 +10,14 @@ ghost use Rattle.clay_aloof.specs.Pieces.{PiecesFit, ArePieces, HaveBytes, IsReb
 ghost use Rattle.lane_repair.specs.Views.{pieces_of, HasRoom as HasViewRoom};
 ghost use Rattle.clay_aloof.specs.Known.{node_bytes, IsKnown};
 ghost use Rattle.clay_aloof.specs.Solved.{IsPlan, IsIn, AreSolved};
+ghost use Rattle.clay_aloof.specs.Ordered.{AreKept};
 ghost use Rattle.clay_aloof.specs.Rebuilt.{is_missing_node, is_unknown, IsBetween, IsEntry, IsGap, IsRepairPlan, ArePartTables, ArePut, IsLostPiece, HoldsLost, IsLostChunk, HasColumn, kept_layers};
 
 use crate::geometry::AloofGeometry;
 use crate::known::{Known, Source, Tables, piece};
-use crate::layers::{Plan, erased_points, partner_of, places_of, solved_piece, solved_values};
-use crate::partners::Partners;
+use crate::layers::{Plan, partner_of, places_of, plan_of, solved_piece, solved_values};
 use clay_grid::Geometry;
 use clay_kernels::{Products, cross, halves, zeros};
-use generator_matrix::generator_of;
 use lane_repair::ChunkView;
 use std::alloc::{AllocError, Global};
 
@@ -79,8 +78,7 @@ fn is_gap(g: AloofGeometry, lost: u32, parts: &[Option<Vec<u8>>], c: u32) -> boo
     requires chunk { c < all_chunks g }
     ensures { IsTrue result ↔ IsGap g lost parts.now c }
 {
-    let grid = g.grid();
-    let q = grid.q();
+    let q = g.grid().q();
     let own = g.node_of_chunk(lost) / q;
     let column = g.node_of_chunk(c) / q;
     if c == lost {
@@ -142,10 +140,8 @@ fn is_solved(g: AloofGeometry, lost: u32, parts: ChunkView<'_>, node: u32) -> bo
     requires node { node < node_count (grid_of g) }
     ensures { result ≡ is_unknown g lost (pieces_of parts.entry) node }
 {
-    let grid = g.grid();
-    let q = grid.q();
-    let own = g.node_of_chunk(lost);
-    let column = own / q;
+    let q = g.grid().q();
+    let column = g.node_of_chunk(lost) / q;
     let missing = is_missing(g, parts, node);
     node / q == column || missing
 }
@@ -193,6 +189,24 @@ fn ordered_layers(
     Ok(layers)
 }
 
+// The layers that the helpers give, by rising score.
+fn given_layers(
+    alloc: Global,
+    g: AloofGeometry,
+    lost: u32,
+    erased: &[bool],
+) -> Result<Vec<u32>, AllocError>
+    requires lost { lost < all_chunks g }
+    requires nodes { length erased.now ≡ node_count (grid_of g) }
+    ensures { IfOk result (λ v. AreKept g lost erased.now v.items) }
+{
+    let grid = g.grid();
+    let (x, y) = grid.place(g.node_of_chunk(lost));
+    // a layer's score is one more than the number of aloof nodes that are unpaired in it
+    let order = grid.layers_by_score(alloc, erased)?;
+    ordered_layers(alloc, grid, &order, x, y)
+}
+
 // The plan of a repair: the nodes of the lost node's column and the aloof nodes are solved, in the layers that the helpers give.
 fn repair_plan(
     alloc: Global,
@@ -205,25 +219,9 @@ fn repair_plan(
     requires room { HasViewRoom parts }
     ensures { IfOk result (IsRepairPlan g lost (pieces_of parts.entry)) }
 {
-    let grid = g.grid();
-    let node = g.node_of_chunk(lost);
-    let (x, y) = grid.place(node);
     let erased = solved_nodes(alloc, g, lost, parts)?;
-    let points = erased_points(alloc, &erased)?;
-    let generator = generator_of(alloc, grid, &points)?;
-    // a layer's score is one more than the number of aloof nodes that are unpaired in it
-    let order = grid.layers_by_score(alloc, &erased)?;
-    let layers = ordered_layers(alloc, grid, &order, x, y)?;
-    let slots = places_of(alloc, grid, &layers)?;
-    let partners = Partners::new(alloc, grid)?;
-    Ok(Plan {
-        erased,
-        points,
-        generator,
-        layers,
-        slots,
-        partners,
-    })
+    let layers = given_layers(alloc, g, lost, &erased)?;
+    plan_of(alloc, g.grid(), erased, layers)
 }
 
 /// For each node the chunk that stands for it.
@@ -365,6 +363,30 @@ fn write_lost(
     }
 }
 
+// Writes the lost chunk by its plan.
+fn rebuild_by(
+    alloc: Global,
+    g: AloofGeometry,
+    lost: u32,
+    parts: ChunkView<'_>,
+    plan: &Plan,
+    chunk: &mut [u8],
+) -> Result<(), AllocError>
+    requires parts { ArePieces g lost (pieces_of parts) }
+    requires room { HasViewRoom parts }
+    requires plan { IsRepairPlan g lost (pieces_of parts) plan.now }
+    requires chunk { length chunk.old ≡ chunk_length (grid_of g) }
+    ensures rebuilt { OnOk result (IsRebuiltFrom g lost (pieces_of parts.entry) chunk.new) }
+    ensures kept { OnErr result (chunk.new ≡ chunk.old) }
+{
+    are_bytes(g, parts);
+    let tables = part_tables(alloc, g, lost)?;
+    let known = known_parts(g, lost, parts, &tables);
+    let solved = solved_values(alloc, g.grid(), plan, &known)?;
+    write_lost(g, lost, parts, plan, &known, &solved, chunk);
+    Ok(())
+}
+
 /// Writes the lost chunk of the codewords whose chunks have these parts. Any parts are those of some codeword.
 ///
 /// `parts` shows for `d` helpers, among them each other chunk of the lost one's column, the subchunks of the layers of
@@ -383,13 +405,8 @@ pub fn rebuild_into(
     ensures rebuilt { OnOk result (IsRebuiltFrom g lost (pieces_of parts.entry) chunk.new) }
     ensures kept { OnErr result (chunk.new ≡ chunk.old) }
 {
-    are_bytes(g, parts);
     let plan = repair_plan(alloc, g, lost, parts)?;
-    let tables = part_tables(alloc, g, lost)?;
-    let known = known_parts(g, lost, parts, &tables);
-    let solved = solved_values(alloc, g.grid(), &plan, &known)?;
-    write_lost(g, lost, parts, &plan, &known, &solved, chunk);
-    Ok(())
+    rebuild_by(alloc, g, lost, parts, &plan, chunk)
 }
 
 // The same from parts that are vectors.

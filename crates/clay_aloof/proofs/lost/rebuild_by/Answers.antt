@@ -1,6 +1,6 @@
 use Rattle.lane_repair.specs.Views.{pieces_of}
 use Rattle.clay_aloof.proofs.Coded.{pieces_are_coded}
-use Rattle.clay_aloof.proofs.lost.rebuild_into.Goals as goal
+use Rattle.clay_aloof.proofs.lost.rebuild_by.Goals as goal
 
 pub returns-clause-rebuilt : goal.returns-clause-rebuilt
 returns-clause-rebuilt c =
