@@ -201,6 +201,44 @@ impl<'a> Recovery<'a> {
             self.put(solved, c, chunks);
         }
     }
+
+    // Writes the missing chunks, solved from the others, to their places.
+    fn recover(&self, alloc: Global, chunks: &mut [u8]) -> Result<(), AllocError>
+        requires recovery { IsRecovery self.now }
+        requires chunks_len { length chunks.old ≡ all_chunks self.now.g * chunk_length (grid_of self.now.g) }
+        ensures recovered { OnOk result (IsRecovered self.now.g self.now.missing.now chunks.old chunks.new) }
+        ensures kept { OnErr result (chunks.new ≡ chunks.old) }
+    {
+        let solved = self.solve(alloc, chunks)?;
+        self.put_all(&solved, chunks);
+        Ok(())
+    }
+}
+
+// Writes the missing chunks to their places by the plan of their nodes.
+fn recover_by(
+    alloc: Global,
+    g: AloofGeometry,
+    missing: &[bool],
+    plan: &Plan,
+    chunks: &mut [u8],
+) -> Result<(), AllocError>
+    requires missing { length missing.now ≡ all_chunks g }
+    requires plan { IsMissingPlan g missing.now plan.now }
+    requires chunks { length chunks.old ≡ all_chunks g * chunk_length (grid_of g) }
+    ensures recovered { OnOk result (IsRecovered g missing.now chunks.old chunks.new) }
+    ensures kept { OnErr result (chunks.new ≡ chunks.old) }
+{
+    let starts = chunk_starts(alloc, g, missing)?;
+    let tables = chunk_tables(alloc, g)?;
+    let recovery = Recovery {
+        g,
+        missing,
+        starts: &starts,
+        plan,
+        tables: &tables,
+    };
+    recovery.recover(alloc, chunks)
 }
 
 /// Writes the missing chunks of the codeword that has the others, where one does, to their places among all chunks, which stand one behind
@@ -219,17 +257,6 @@ pub fn recover_into(
     ensures recovered { OnOk result (IsRecovered g missing.now chunks.old chunks.new) }
     ensures kept { OnErr result (chunks.new ≡ chunks.old) }
 {
-    let starts = chunk_starts(alloc, g, missing)?;
-    let tables = chunk_tables(alloc, g)?;
     let plan = missing_plan(alloc, g, missing)?;
-    let recovery = Recovery {
-        g,
-        missing,
-        starts: &starts,
-        plan: &plan,
-        tables: &tables,
-    };
-    let solved = recovery.solve(alloc, chunks)?;
-    recovery.put_all(&solved, chunks);
-    Ok(())
+    recover_by(alloc, g, missing, &plan, chunks)
 }
