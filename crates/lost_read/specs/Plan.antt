@@ -7,6 +7,7 @@ use Rattle.generator_matrix.specs.Generated.{IsGeneratorOf}
 use Rattle.lost_layers.specs.LostLayers.{is_solved, is_unknown}
 use Rattle.lost_layers.specs.LostPieces.{lost_pieces_of, piece_at}
 use Rattle.lost_layers.specs.Placing.{IsPlaced}
+use Rattle.lost_layers.specs.declared.placed.PlacedRun.{PlacedRun}
 use Rattle.lost_layers.specs.declared.run.LostPiece.{LostPiece}
 use Rattle.lost_read.specs.declared.plan.ReadPlan.{ReadPlan}
 
@@ -32,12 +33,16 @@ HasPlaces g pieces count places =
     (r : ℕ) → r < count
     → IsAt pieces r (get_or places ((get_or pieces r (piece_at 0 0)).chunk * layer_count g + (get_or pieces r (piece_at 0 0)).layer) 0)
 
+-- for the subchunk of each of a run's pieces there is a place of it among them
+abbrev pub ArePlacesOf : PlacedRun → List ℕ → Type 0
+ArePlacesOf placed places = HasPlaces placed.g (lost_pieces_of placed.g placed.run) (length (lost_pieces_of placed.g placed.run)) places
+
 -- a run with its place, the places of its pieces, the nodes whose values are solved for, their factors, a subchunk of zeros, and the products
 -- of the inverse of 2
 pub record IsReadPlan (plan : ReadPlan) : Type 0 where
   pub placed_is : IsPlaced plan.placed
   pub places_long : length plan.places.items ≡ chunk_count plan.placed.g * layer_count plan.placed.g
-  pub places_are : HasPlaces plan.placed.g (lost_pieces_of plan.placed.g plan.placed.run) (length (lost_pieces_of plan.placed.g plan.placed.run)) plan.places.items
+  pub places_are : ArePlacesOf plan.placed plan.places.items
   pub nodes : length plan.erased.items ≡ node_count plan.placed.g
   pub erased_are : (n i : ℕ) → is_solved plan.placed.g plan.placed.run n ≡ true → i < node_count plan.placed.g
       → get_or plan.erased.items i false ≡ is_unknown plan.placed.g plan.placed.run n i

@@ -1,15 +1,15 @@
 //! What a run is read with.
-ghost use Rattle.std.specs.Prelude.{◌≡◌, ℕ, ◌*◌, ◌<◌, ◌≤◌, length, IfOk, slice_index_or, true, false};
+ghost use Rattle.std.specs.Prelude.{◌≡◌, ℕ, ◌*◌, ◌<◌, length, IfOk, slice_index_or, true, false};
 ghost use Rattle.clay_grid.specs.Shape.{chunk_count, node_count, layer_count};
-ghost use Rattle.clay_model.specs.Erased.{erased_below};
 ghost use Rattle.lost_layers.specs.LostLayers.{is_wanted, is_solved, is_unknown};
 ghost use Rattle.lost_layers.specs.Placing.{IsPlaced};
-ghost use Rattle.lost_read.specs.Plan.{AreSubchunks, HasPlaces, IsReadPlan};
+ghost use Rattle.lost_read.specs.Plan.{AreSubchunks, HasPlaces, ArePlacesOf, IsReadPlan};
 
 use clay_grid::Geometry;
 use clay_kernels::{Products, halves, zeros};
 use clay_model::partner_of;
 use generator_matrix::{Generator, generator_of};
+use lane_repair::erased_points;
 use lost_layers::{LostPiece, PlacedRun, pieces_of_run};
 use std::alloc::{AllocError, Global};
 
@@ -53,6 +53,16 @@ fn places_of(alloc: Global, g: Geometry, pieces: &[LostPiece]) -> Result<Vec<usi
     Ok(places)
 }
 
+// For each subchunk its place among the pieces of a run.
+fn places_for(alloc: Global, placed: &PlacedRun) -> Result<Vec<usize>, AllocError>
+    requires { IsPlaced placed.now }
+    ensures len { IfOk result (λ v. length v.items ≡ chunk_count placed.now.g * layer_count placed.now.g) }
+    ensures places { IfOk result (λ v. ArePlacesOf placed.now v.items) }
+{
+    let pieces = pieces_of_run(alloc, placed)?;
+    places_of(alloc, placed.g, &pieces)
+}
+
 // A layer that is solved for a wanted one.
 fn layer_for(placed: &PlacedRun, z: u32) -> u32
     requires placed { IsPlaced placed.now }
@@ -82,20 +92,6 @@ fn erased_nodes(alloc: Global, placed: &PlacedRun, layer: u32) -> Result<Vec<boo
     Ok(erased)
 }
 
-// The numbers of the erased nodes, rising.
-fn erased_points(alloc: Global, erased: &[bool]) -> Result<Vec<u8>, AllocError>
-    requires { length erased.now ≤ 256 }
-    ensures { IfOk result (λ v. v.items ≡ erased_below erased.now (length erased.now)) }
-{
-    let mut points = Vec::new(alloc);
-    for (node, missing) in erased.iter().enumerate() {
-        if *missing {
-            points.push(node as u8)?;
-        }
-    }
-    Ok(points)
-}
-
 impl ReadPlan {
     /// The plan for a run that isn't empty.
     pub(crate) fn new(alloc: Global, placed: PlacedRun) -> Result<ReadPlan, AllocError>
@@ -104,12 +100,11 @@ impl ReadPlan {
         ensures { IfOk result (λ plan. IsReadPlan plan × (plan.placed ≡ placed)) }
     {
         let g = placed.g;
-        let pieces = pieces_of_run(alloc, &placed)?;
-        let places = places_of(alloc, g, &pieces)?;
+        let zeros = zeros(alloc, g.w() as usize)?;
+        let places = places_for(alloc, &placed)?;
         let erased = erased_nodes(alloc, &placed, layer_for(&placed, placed.run.from))?;
         let points = erased_points(alloc, &erased)?;
         let generator = generator_of(alloc, g, &points)?;
-        let zeros = zeros(alloc, g.w() as usize)?;
         Ok(ReadPlan {
             placed,
             places,

@@ -1,6 +1,7 @@
 //! Layers of a lost chunk from the pieces.
 ghost use Rattle.std.specs.Prelude.{◌≡◌, ◌↔◌, length, map, All, IfOk, IfErr, OnOk, OnErr, IsTrue};
 ghost use Rattle.lost_layers.specs.Placing.{IsPlaced};
+ghost use Rattle.lost_read.specs.Plan.{IsReadPlan};
 ghost use Rattle.lost_read.specs.Read.{AreLong, IsReadable, IsReadFrom};
 ghost use Rattle.lost_read.specs.Refused.{IsReadRefused};
 
@@ -45,6 +46,26 @@ fn checked(g: Geometry, run: LostRun, pieces: &[&[u8]], room: usize) -> Result<P
     Ok(PlacedRun::new(g, run))
 }
 
+// Writes the layers of a run by its plan.
+fn read_by(
+    alloc: Global,
+    plan: &ReadPlan,
+    pieces: &[&[u8]],
+    out: &mut [u8],
+) -> Result<(), AllocError>
+    requires plan { IsReadPlan plan.now }
+    requires readable { IsReadable plan.now.placed.g plan.now.placed.run (map (λ piece. piece.now) pieces.now) (length out.old) }
+    ensures read { OnOk result (IsReadFrom plan.now.placed.g plan.now.placed.run (map (λ piece. piece.now) pieces.now) out.new) }
+    ensures kept { OnErr result (out.new ≡ out.old) }
+{
+    let w = plan.placed.g.w() as usize;
+    let mut value = zeros(alloc, w)?;
+    let mut sum = zeros(alloc, w)?;
+    let reading = Reading { plan, pieces };
+    reading.write_run(&mut value, &mut sum, out);
+    Ok(())
+}
+
 /// Writes the layers of a run of the code: the bytes of the lost chunk of the codeword that has these pieces, where one does.
 ///
 /// `pieces` has the bytes of each subchunk that `pieces_of_run` lists, in its order. Where no codeword has these pieces, some bytes are
@@ -64,14 +85,7 @@ pub fn read_pieces(
         return Ok(());
     }
     let plan = ReadPlan::new(alloc, *placed)?;
-    let mut value = zeros(alloc, placed.g.w() as usize)?;
-    let mut sum = zeros(alloc, placed.g.w() as usize)?;
-    let reading = Reading {
-        plan: &plan,
-        pieces,
-    };
-    reading.write_run(&mut value, &mut sum, out);
-    Ok(())
+    read_by(alloc, &plan, pieces, out)
 }
 
 /// Writes the layers of a run, as `read_pieces` does, if it is one of the code's, these are its pieces and there is room for it.

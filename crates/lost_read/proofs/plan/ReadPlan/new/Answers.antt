@@ -5,14 +5,8 @@ use Rattle.clay_model.specs.Points.{AreDistinct}
 use Rattle.generator_matrix.specs.Generated.{IsGeneratorOf}
 use Rattle.code_laws.proofs.ErasedNodes.{AreDistinct-erased}
 use Rattle.code_laws.proofs.Column.{node_inside}
-use Rattle.lost_read.specs.Plan.{AreSubchunks, HasPlaces}
-use Rattle.lost_read.proofs.ReadLaws.{are_subchunks, few_points, unknown_same}
+use Rattle.lost_read.proofs.ReadLaws.{few_points, unknown_same}
 use Rattle.lost_read.proofs.plan.ReadPlan.new.Goals as goal
-
-pub places_of-requires : goal.places_of-requires
-places_of-requires c =
-    let placed = c.args.placed in
-    subst (AreSubchunks placed.g) (sym (c.deref.ensures.value ∙ c.in_ok-pieces.ensures)) (are_subchunks placed.g placed.run)
 
 at_most_eight : (n m : ℕ) → n ≤ m → m ≤ 8 → n ≤ 8
 at_most_eight n m h l = omega arith
@@ -22,10 +16,10 @@ generator_of-requires-clause-few c =
     let placed = c.args.placed in
     let nodes = c.in_ok-erased.erased.items in
     let points_are : c.in_ok-points.points.items ≡ erased_below nodes (node_count placed.g) =
-    c.in_ok-points.ensures ∙ (λ k. erased_below (c.deref-2.ensures.value k) (length (c.deref-2.ensures.value k))) ∙ ap (erased_below nodes) c.in_ok-erased.ensures.len in
+    c.in_ok-points.ensures ∙ (λ k. erased_below (c.deref.ensures.value k) (length (c.deref.ensures.value k))) ∙ ap (erased_below nodes) c.in_ok-erased.ensures.len in
     let few : length (erased_below nodes (node_count placed.g)) ≤ placed.g.parity_count =
     few_points placed.g placed.run c.layer_for.result nodes c.requires.placed.geometry (node_inside placed.g placed.run.lost c.requires.placed.geometry c.requires.placed.run.chunk) c.in_ok-erased.ensures.value in
-    subst (λ l. length l ≤ 8) (sym (c.deref-3.ensures.value ∙ points_are))
+    subst (λ l. length l ≤ 8) (sym (c.deref-2.ensures.value ∙ points_are))
     (at_most_eight (length (erased_below nodes (node_count placed.g))) placed.g.parity_count few c.requires.placed.geometry.limits.parity_chunks.1)
 
 pub generator_of-requires-clause-distinct : goal.generator_of-requires-clause-distinct
@@ -33,8 +27,8 @@ generator_of-requires-clause-distinct c =
     let placed = c.args.placed in
     let nodes = c.in_ok-erased.erased.items in
     let points_are : c.in_ok-points.points.items ≡ erased_below nodes (node_count placed.g) =
-    c.in_ok-points.ensures ∙ (λ k. erased_below (c.deref-2.ensures.value k) (length (c.deref-2.ensures.value k))) ∙ ap (erased_below nodes) c.in_ok-erased.ensures.len in
-    subst AreDistinct (sym (c.deref-3.ensures.value ∙ points_are)) (AreDistinct-erased nodes (node_count placed.g))
+    c.in_ok-points.ensures ∙ (λ k. erased_below (c.deref.ensures.value k) (length (c.deref.ensures.value k))) ∙ ap (erased_below nodes) c.in_ok-erased.ensures.len in
+    subst AreDistinct (sym (c.deref-2.ensures.value ∙ points_are)) (AreDistinct-erased nodes (node_count placed.g))
 
 pub returns : goal.returns
 returns c =
@@ -43,21 +37,21 @@ returns c =
       record {
         placed_is = c.requires.placed;
         places_long = c.in_ok-places.ensures.len;
-        places_are = subst (λ l. HasPlaces placed.g l (length l) c.in_ok-places.places.items) (c.deref.ensures.value ∙ c.in_ok-pieces.ensures) c.in_ok-places.ensures.places;
+        places_are = c.in_ok-places.ensures.places;
         nodes = c.in_ok-erased.ensures.len;
         erased_are = λ n i solved h. c.in_ok-erased.ensures.value i h ∙ unknown_same placed.g placed.run c.layer_for.result n i c.layer_for.ensures.solved solved;
         few =
             subst (λ l. length l ≤ placed.g.parity_count)
             (sym (c.in_ok-points.ensures
-            ∙ (λ k. erased_below (c.deref-2.ensures.value k) (length (c.deref-2.ensures.value k)))
+            ∙ (λ k. erased_below (c.deref.ensures.value k) (length (c.deref.ensures.value k)))
             ∙ ap (erased_below c.in_ok-erased.erased.items) c.in_ok-erased.ensures.len))
             (few_points placed.g placed.run c.layer_for.result c.in_ok-erased.erased.items c.requires.placed.geometry
             (node_inside placed.g placed.run.lost c.requires.placed.geometry c.requires.placed.run.chunk) c.in_ok-erased.ensures.value);
         points_are =
             c.in_ok-points.ensures
-            ∙ (λ k. erased_below (c.deref-2.ensures.value k) (length (c.deref-2.ensures.value k)))
+            ∙ (λ k. erased_below (c.deref.ensures.value k) (length (c.deref.ensures.value k)))
             ∙ ap (erased_below c.in_ok-erased.erased.items) c.in_ok-erased.ensures.len;
-        generates = subst (λ l. IsGeneratorOf placed.g l gen.unknown gen.each) c.deref-3.ensures.value c.in_ok-generator.ensures;
+        generates = subst (λ l. IsGeneratorOf placed.g l gen.unknown gen.each) c.deref-2.ensures.value c.in_ok-generator.ensures;
         empty = c.in_ok-zeros.ensures ∙ ap (λ n. replicate {A = ℕ} n 0) c.w.ensures.value;
         halves_are = c.halves.ensures;
       },
