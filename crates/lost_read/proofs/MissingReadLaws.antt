@@ -1,5 +1,5 @@
 -- The places of pieces, the values of unknown nodes layer by layer, and the lost subchunks that are made of them.
-use Rattle.std.proofs.Common.{◌≡◌, ◌≢◌, ℕ, suc, subst, ◌+◌, ◌-◌, ◌*◌, ◌<◌, ◌≤◌, ◌⊎◌, Bool, true, false, not, cond, List, [], ◌∷◌, ◌++◌, length, get_or, take, drop, sym, ap, ◌∙◌, inl, inr, arith, bit_xor, Result, Ok, Err}
+use Rattle.std.proofs.Common.{◌≡◌, ◌≢◌, ℕ, suc, subst, ◌+◌, ◌-◌, ◌*◌, ◌<◌, ◌≤◌, ◌⊎◌, Bool, true, false, not, cond, List, [], ◌∷◌, ◌++◌, length, get_or, take, drop, refl, sym, ap, ◌∙◌, inl, inr, arith, bit_xor, Result, Ok, Err}
 use Rattle.std.specs.Prelude.{IsErrAnd, IfErr}
 use Rattle.std.proofs.lemmas.Bool.{cases_eq, cases_lt, cond-true, cond-false, or_left, or_right, not_from_false}
 use Rattle.std.proofs.lemmas.List.{length_push, get_or_push, get_or_append_left, get_or-map, get_or-take, get_or-drop}
@@ -35,14 +35,14 @@ use Rattle.lost_read.proofs.ReadLaws.{key, crossed_mate}
 use Rattle.lost_layers.specs.Erased.{Erased, IsErased, is_missing, is_unknown}
 use Rattle.lost_layers.specs.ErasedLayers.{mate as mate_of, is_solved}
 use Rattle.lost_layers.specs.ErasedPieces.{is_piece, pieces_of}
-use Rattle.lost_layers.specs.Without.{missing_pieces_of, IsReadable}
+use Rattle.lost_layers.specs.Without.{without, missing_pieces_of, IsReadable}
 use Rattle.lost_layers.proofs.ErasedLists.{each_read, only_read}
 use Rattle.lost_layers.proofs.ErasedServing.{partner_solved, own_solved, mate_solved}
 use Rattle.lost_layers.proofs.ErasedDetermining.{partner_piece, mate_piece}
 use Rattle.lost_read.specs.MissingRead.{HasPieces}
 use Rattle.lost_read.specs.MissingPlan.{rank, AreRanks}
 use Rattle.lost_read.specs.MissingReadings.{run_of, IsReading, IsMateIn, HoldsRunIn, IsRunIn}
-use Rattle.lost_read.specs.MissingRefused.{IsMisfit, IsReadRefused}
+use Rattle.lost_read.specs.MissingRefused.{IsMisfit, IsUnread, IsReadRefused}
 use Rattle.lost_read.specs.declared.missing_fault.MissingReadFault.{MissingReadFault}
 use Rattle.lost_read.specs.declared.missing_fault.MissingReadFault.TheVariants.{Run, PieceCount, PieceLength, Room}
 use Rattle.lost_read.specs.declared.missing_reading.Reading.{Reading}
@@ -355,6 +355,11 @@ misfit_refused g run marks pieces room count (Run fault) readable same misfit = 
 misfit_refused g run marks pieces room count PieceCount readable same misfit = (readable, subst (λ n. IsMisfit g run n pieces room PieceCount) same misfit)
 misfit_refused g run marks pieces room count PieceLength readable same misfit = (readable, subst (λ n. IsMisfit g run n pieces room PieceLength) same misfit)
 misfit_refused g run marks pieces room count Room readable same misfit = (readable, subst (λ n. IsMisfit g run n pieces room Room) same misfit)
+
+pub unread_refused : (g : Shape) (run : LostRun) (marks : List Bool) (pieces : List (List ℕ)) (room : ℕ) (fault : MissingReadFault) → IsReadable g run marks
+    → IsUnread (without g run marks) pieces room fault → IsReadRefused g run marks pieces room fault
+unread_refused g run marks pieces room fault readable (inl memory) = subst (IsReadRefused g run marks pieces room) (sym memory) readable
+unread_refused g run marks pieces room fault readable (inr misfit) = misfit_refused g run marks pieces room (length (missing_pieces_of g run marks)) fault readable refl misfit
 
 -- what holds of a fault holds of the answer that hands it on
 pub handed_on : {T : Type 0} (P : MissingReadFault → Type 0) (r : Result T MissingReadFault) (fault : MissingReadFault) → IsErrAnd r (λ other. other ≡ fault) → P fault → IfErr r P

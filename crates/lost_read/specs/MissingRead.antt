@@ -5,6 +5,8 @@ use Rattle.clay_model.specs.Code.{IsCodeword}
 use Rattle.lost_layers.specs.Determined.{bytes_of_run}
 use Rattle.lost_layers.specs.declared.run.LostRun.{LostRun}
 use Rattle.lost_layers.specs.declared.run.LostPiece.{LostPiece}
+use Rattle.lost_layers.specs.Erased.{Erased}
+use Rattle.lost_layers.specs.ErasedPieces.{pieces_of}
 use Rattle.lost_read.specs.Read.{bytes_of_piece, AreLong}
 use Rattle.lost_layers.specs.Without.{missing_pieces_of, IsReadable}
 
@@ -18,6 +20,10 @@ abbrev pub IsReadFrom : Shape → LostRun → List Bool → List (List ℕ) → 
 IsReadFrom g run present pieces bytes =
     (word : List (List ℕ)) → HasPieces g (missing_pieces_of g run present) pieces word → bytes ≡ bytes_of_run g word run
 
+-- the same of a run of which some nodes are erased
+abbrev pub IsRunFrom : Erased → List (List ℕ) → List ℕ → Type 0
+IsRunFrom e pieces bytes = (word : List (List ℕ)) → HasPieces e.g (pieces_of e) pieces word → bytes ≡ bytes_of_run e.g word e.run
+
 -- so many subchunks, and room for the run's bytes
 pub record FitRun (g : Shape) (run : LostRun) (count : ℕ) (pieces : List (List ℕ)) (room : ℕ) : Type 0 where
   pub count_is : length pieces ≡ count
@@ -28,3 +34,7 @@ pub record FitRun (g : Shape) (run : LostRun) (count : ℕ) (pieces : List (List
 pub record IsReadableFrom (g : Shape) (run : LostRun) (present : List Bool) (pieces : List (List ℕ)) (room : ℕ) : Type 0 where
   pub readable : IsReadable g run present
   pub fit : FitRun g run (length (missing_pieces_of g run present)) pieces room
+
+-- as many subchunks as a run takes of which some nodes are erased, and room for its bytes
+abbrev pub FitErased : Erased → List (List ℕ) → ℕ → Type 0
+FitErased e pieces room = FitRun e.g e.run (length (pieces_of e)) pieces room

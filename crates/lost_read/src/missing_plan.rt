@@ -1,7 +1,6 @@
 //! What a run is read with.
-ghost use Rattle.std.specs.Prelude.{◌≡◌, ◌*◌, ◌≤◌, [], ◌∷◌, length, IfOk};
+ghost use Rattle.std.specs.Prelude.{◌≡◌, ◌*◌, [], ◌∷◌, length, IfOk};
 ghost use Rattle.clay_grid.specs.Shape.{chunk_count, layer_count};
-ghost use Rattle.clay_model.specs.Erased.{erased_below};
 ghost use Rattle.lost_read.specs.Plan.{AreSubchunks, HasPlaces};
 ghost use Rattle.lost_layers.specs.ErasedPieces.{pieces_of};
 ghost use Rattle.lost_layers.specs.ErasedRuns.{solved_of, IsSolvedRun};
@@ -10,6 +9,7 @@ ghost use Rattle.lost_read.specs.MissingPlan.{AreRanks, IsReadPlan};
 use clay_grid::Geometry;
 use clay_kernels::{Products, fifths, halves, zeros};
 use generator_matrix::{Generator, generator_of};
+use lane_repair::erased_points;
 use lost_layers::{LostPiece, SolvedRun};
 use std::alloc::{AllocError, Global};
 
@@ -55,20 +55,6 @@ fn places_of(alloc: Global, g: Geometry, list: &[LostPiece]) -> Result<Vec<usize
     Ok(places)
 }
 
-// The numbers of the nodes with a mark, rising.
-fn points_of(alloc: Global, marks: &[bool]) -> Result<Vec<u8>, AllocError>
-    requires { length marks.now ≤ 256 }
-    ensures { IfOk result (λ v. v.items ≡ erased_below marks.now (length marks.now)) }
-{
-    let mut points = Vec::new(alloc);
-    for (node, mark) in marks.iter().enumerate() {
-        if *mark {
-            points.push(node as u8)?;
-        }
-    }
-    Ok(points)
-}
-
 // The rank of the first layer, with room for those of so many more.
 fn first_rank(alloc: Global, count: u32) -> Result<Vec<u32>, AllocError>
     ensures { IfOk result (λ v. v.items ≡ 0 ∷ []) }
@@ -106,7 +92,7 @@ impl ReadPlan {
     {
         let g = run.placed.g;
         let places = places_of(alloc, g, list)?;
-        let points = points_of(alloc, run.unknown)?;
+        let points = erased_points(alloc, run.unknown)?;
         let generator = generator_of(alloc, g, &points)?;
         let order = g.layers_by_score(alloc, run.unknown)?;
         let ranks = ranks_of(alloc, run)?;

@@ -3,15 +3,17 @@ ghost use Rattle.std.specs.Prelude.{◌≡◌, ◌<◌, ◌≤◌, ◌↔◌, le
 ghost use Rattle.lost_layers.specs.Placing.{IsPlaced};
 ghost use Rattle.lost_read.specs.Read.{AreLong};
 ghost use Rattle.lost_layers.specs.Without.{IsReadable};
-ghost use Rattle.lost_read.specs.MissingRead.{FitRun, IsReadableFrom, IsReadFrom};
-ghost use Rattle.lost_read.specs.MissingRefused.{IsMisfit, IsReadRefused};
+ghost use Rattle.lost_layers.specs.ErasedPieces.{pieces_of};
+ghost use Rattle.lost_layers.specs.ErasedRuns.{solved_of, IsSolvedRun};
+ghost use Rattle.lost_read.specs.MissingRead.{FitRun, FitErased, IsReadableFrom, IsReadFrom, IsRunFrom};
+ghost use Rattle.lost_read.specs.MissingRefused.{IsMisfit, IsUnread, IsReadRefused};
 
 use crate::missing_fault::MissingReadFault;
 use crate::missing_plan::ReadPlan;
 use crate::missing_reading::Reading;
 use clay_grid::Geometry;
-use lost_layers::{LostRun, MarkedRun, PlacedRun, readable_run};
-use std::alloc::Global;
+use lost_layers::{LostPiece, LostRun, MarkedRun, PlacedRun, SolvedRun, readable_run};
+use std::alloc::{AllocError, Global};
 
 // Whether each piece has so many bytes.
 fn are_long(len: usize, pieces: &[&[u8]]) -> bool
@@ -51,6 +53,48 @@ fn checked(
     Ok(())
 }
 
+// Writes the layers of a run from its pieces.
+fn read_listed(
+    alloc: Global,
+    run: &SolvedRun<'_>,
+    list: &[LostPiece],
+    pieces: &[&[u8]],
+    out: &mut [u8],
+) -> Result<(), AllocError>
+    requires run { IsSolvedRun run.now }
+    requires list { list.now ≡ pieces_of (solved_of run.now) }
+    requires fit { FitRun run.now.placed.g run.now.placed.run (length list.now) (map (λ piece. piece.now) pieces.now) (length out.old) }
+    ensures read { OnOk result (IsRunFrom (solved_of run.now) (map (λ piece. piece.now) pieces.now) out.new) }
+    ensures kept { OnErr result (out.new ≡ out.old) }
+{
+    let plan = ReadPlan::new(alloc, run, list)?;
+    let reading = Reading {
+        run,
+        plan: &plan,
+        pieces,
+    };
+    reading.read(alloc, out)
+}
+
+// Writes the layers of a run, if these are its pieces and there is room for it.
+fn read_solved(
+    alloc: Global,
+    run: &SolvedRun<'_>,
+    pieces: &[&[u8]],
+    out: &mut [u8],
+) -> Result<(), MissingReadFault>
+    requires { IsSolvedRun run.now }
+    ensures fit { OnOk result (FitErased (solved_of run.now) (map (λ piece. piece.now) pieces.now) (length out.old)) }
+    ensures read { OnOk result (IsRunFrom (solved_of run.now) (map (λ piece. piece.now) pieces.now) out.new) }
+    ensures unread { IfErr result (IsUnread (solved_of run.now) (map (λ piece. piece.now) pieces.now) (length out.old)) }
+    ensures kept { OnErr result (out.new ≡ out.old) }
+{
+    let list = run.pieces(alloc)?;
+    checked(run.placed.g, run.placed.run, list.len(), pieces, out.len())?;
+    read_listed(alloc, run, &list, pieces, out)?;
+    Ok(())
+}
+
 // Reads a run that isn't empty.
 fn read_some(
     alloc: Global,
@@ -69,15 +113,7 @@ fn read_some(
 {
     let marked = MarkedRun::new(alloc, placed, present)?;
     let run = marked.solved();
-    let list = run.pieces(alloc)?;
-    checked(placed.g, placed.run, list.len(), pieces, out.len())?;
-    let plan = ReadPlan::new(alloc, &run, &list)?;
-    let reading = Reading {
-        run: &run,
-        plan: &plan,
-        pieces,
-    };
-    reading.read(alloc, out)?;
+    read_solved(alloc, &run, pieces, out)?;
     Ok(())
 }
 

@@ -1,28 +1,35 @@
-use Rattle.std.proofs.Common.{◌≡◌, ℕ, List, Bor, map, length, sym, subst, ap, ◌∙◌}
-use Rattle.std.proofs.lemmas.List.{length-map}
-use Rattle.lost_layers.specs.Determined.{bytes_of_run}
-use Rattle.lost_read.specs.Read.{AreLong}
+use Rattle.std.proofs.Common.{◌≡◌, ℕ, List, Bor, map, length, subst, ◌∙◌}
 use Rattle.lost_layers.specs.Erased.{Erased}
-use Rattle.lost_layers.specs.ErasedPieces.{pieces_of}
 use Rattle.lost_layers.specs.ErasedRuns.{solved_of}
 use Rattle.lost_layers.specs.Without.{without}
-use Rattle.lost_read.specs.MissingRead.{HasPieces}
+use Rattle.lost_read.specs.MissingRead.{FitErased, IsRunFrom}
+use Rattle.lost_read.specs.MissingRefused.{IsUnread, IsReadRefused}
+use Rattle.lost_read.proofs.MissingReadLaws.{unread_refused, handed_on}
 use Rattle.lost_read.proofs.missing_reads.read_some.Goals as goal
 
-pub read-requires-clause-reading : goal.read-requires-clause-reading
-read-requires-clause-reading c =
-    let pieces : List (Bor (List ℕ)) = c.args.pieces.now in
-    let fit = c.in_ok-checked.ensures.fit in
-    let run : solved_of c.solved-run.result ≡ without c.args.placed.now.g c.args.placed.now.run c.args.present.now = c.solved-run.ensures.erased ∙ c.in_ok-marked.ensures.without in
+pub returns-in_err-read_solved-clause-refused : goal.returns-in_err-read_solved-clause-refused
+returns-in_err-read_solved-clause-refused c =
+    let g = c.args.placed.now.g in
+    let run = c.args.placed.now.run in
+    let present = c.args.present.now in
+    let pieces : List (List ℕ) = map (λ (piece : Bor (List ℕ)). piece.now) c.args.pieces.now in
+    let room : ℕ = length c.args.out.now in
+    let same : solved_of c.solved-run.result ≡ without g run present = c.solved-run.ensures.erased ∙ c.in_ok-marked.ensures.without in
+    handed_on (IsReadRefused g run present pieces room) c.from_residual-in_err-read_solved.result c.in_err-read_solved.field-0.0 c.from_residual-in_err-read_solved.ensures.1
+    (unread_refused g run present pieces room c.in_err-read_solved.field-0.0 c.requires.readable
+    (subst (λ (e : Erased). IsUnread e pieces room c.in_err-read_solved.field-0.0) same c.in_err-read_solved.ensures.unread))
+
+pub returns-clause-readable : goal.returns-clause-readable
+returns-clause-readable c =
+    let pieces : List (List ℕ) = map (λ (piece : Bor (List ℕ)). piece.now) c.args.pieces.now in
+    let same : solved_of c.solved-run.result ≡ without c.args.placed.now.g c.args.placed.now.run c.args.present.now = c.solved-run.ensures.erased ∙ c.in_ok-marked.ensures.without in
     record {
-      run = c.solved-run.ensures.run;
-      planned = c.in_ok-plan.ensures;
-      count = sym (length-map pieces (λ (piece : Bor (List ℕ)). piece.now)) ∙ fit.count_is ∙ c.len.ensures ∙ c.in_ok-list.list.ok.0 ∙ ap length c.in_ok-list.ensures;
-      lengths = subst (λ w. AreLong w (map (λ (piece : Bor (List ℕ)). piece.now) pieces)) (sym (ap (λ (e : Erased). e.g.width) run)) fit.lengths;
+      readable = c.requires.readable;
+      fit = subst (λ (e : Erased). FitErased e pieces (length c.args.out.now)) same c.in_ok-read_solved.ensures.fit;
     }
 
 pub returns-clause-read : goal.returns-clause-read
 returns-clause-read c =
     let pieces : List (List ℕ) = map (λ (piece : Bor (List ℕ)). piece.now) c.args.pieces.now in
-    let run : solved_of c.solved-run.result ≡ without c.args.placed.now.g c.args.placed.now.run c.args.present.now = c.solved-run.ensures.erased ∙ c.in_ok-marked.ensures.without in
-    subst (λ (e : Erased). (word : List (List ℕ)) → HasPieces e.g (pieces_of e) pieces word → c.read.new.out ≡ bytes_of_run e.g word e.run) run c.in_ok-read.ensures.read
+    let same : solved_of c.solved-run.result ≡ without c.args.placed.now.g c.args.placed.now.run c.args.present.now = c.solved-run.ensures.erased ∙ c.in_ok-marked.ensures.without in
+    subst (λ (e : Erased). IsRunFrom e pieces c.read_solved.new.out) same c.in_ok-read_solved.ensures.read
