@@ -1,8 +1,13 @@
 //! The rule on calls that were given up: no more of an actor than the schedule asks for.
-ghost use Rattle.std.specs.Prelude.{◌≡◌, ◌++◌, map, filter, IfOk, OnOk};
+ghost use Rattle.std.specs.Prelude.{◌≡◌, ◌++◌, None, map, filter, IfOk, OnOk};
+ghost use Rattle.store_map.specs.declared.call_name.CallName.{CallName};
 ghost use Rattle.store_map.specs.declared.call_name.CallName.TheVariants.{Client, Repairer};
+ghost use Rattle.store_map.specs.declared.script.Script.{Script};
+ghost use Rattle.hist_rules.specs.Counts.{reaps};
 ghost use Rattle.hist_rules.specs.First.{first_fault_along};
 ghost use Rattle.hist_rules.specs.GivenUp.{is_reaped_cause, is_reaped_result, reaped_calls, is_reaped, given_up};
+ghost use Rattle.hist_tables.specs.OperatorCounts.{reaps_in};
+ghost use Rattle.hist_tables.specs.Tables.{value_at};
 
 use hist_losses::blame_unless;
 use hist_rules::Verdict;
@@ -54,6 +59,28 @@ fn reaped_calls(alloc: Global, transcript: &Transcript) -> Result<Vec<CallName>,
     Ok(calls)
 }
 
+// The fault of the first of these calls that makes more of its actor than the schedule asks for,
+// by the schedule's counts and a table without an actor.
+fn find_unasked_reap_by(
+    asked: &Reaps,
+    counts: &mut ActorTable,
+    calls: &[CallName],
+) -> Result<Option<Verdict>, AllocError>
+    requires counts { (call : CallName) → value_at counts.old call ≡ None }
+    ensures { (script : Script) → ((call : CallName) → reaps_in asked.now call ≡ reaps script call)
+        → IfOk result (λ found. found ≡ first_fault_along (is_reaped script) calls.now) }
+{
+    for call in calls {
+        let count = counts.get(*call).unwrap_or(0) + 1;
+        let allowed = asked.of(*call);
+        if let Some(fault) = blame_unless(count <= allowed, *call, allowed, count) {
+            return Ok(Some(fault));
+        }
+        counts.set(*call, count)?;
+    }
+    Ok(None)
+}
+
 // The fault of the first of these calls that makes more of its actor than the schedule asks for.
 fn find_unasked_reap(
     alloc: Global,
@@ -64,15 +91,7 @@ fn find_unasked_reap(
 {
     let reaps = Reaps::count(alloc, script)?;
     let mut counts = ActorTable::new(alloc);
-    for call in calls {
-        let count = counts.get(*call).unwrap_or(0) + 1;
-        let asked = reaps.of(*call);
-        if let Some(fault) = blame_unless(count <= asked, *call, asked, count) {
-            return Ok(Some(fault));
-        }
-        counts.set(*call, count)?;
-    }
-    Ok(None)
+    find_unasked_reap_by(&reaps, &mut counts, calls)
 }
 
 /// The fault of the first call that is given up once more often than the schedule gives up passes

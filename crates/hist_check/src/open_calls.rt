@@ -1,6 +1,6 @@
 //! The rule on calls without a reply: at most one of each actor, the first that isn't answered, and
 //! each `open` one has its line there.
-ghost use Rattle.std.specs.Prelude.{◌≡◌, ◌<◌, ◌^◌, List, Option, length, map, find, IfOk, OnOk};
+ghost use Rattle.std.specs.Prelude.{◌≡◌, ◌<◌, ◌^◌, List, Option, None, length, map, find, IfOk, OnOk};
 ghost use Rattle.std.specs.Option.{option_or, option_map};
 ghost use Rattle.store_map.specs.declared.call_name.CallName.TheVariants.{Client};
 ghost use Rattle.hist_rules.specs.Calls.{number_of, same_actor};
@@ -9,7 +9,7 @@ ghost use Rattle.hist_rules.specs.Named.{answered_calls};
 ghost use Rattle.hist_rules.specs.OneOpenCall.{is_unanswered, is_only_one, is_next_call, one_open_call};
 ghost use Rattle.store_map.specs.declared.call_name.CallName.{CallName};
 ghost use Rattle.store_map.specs.declared.transcript.Transcript.{Transcript};
-ghost use Rattle.hist_tables.specs.Tables.{has, IsSetOf};
+ghost use Rattle.hist_tables.specs.Tables.{value_at, IsSetOf};
 ghost use Rattle.hist_check.specs.Reached.{AreReached};
 
 use crate::least_missing::least_missing;
@@ -91,6 +91,32 @@ fn find_effect(script: &Script, unanswered: &CallSet, lines: &[HLine]) -> Option
     None
 }
 
+// The first call without a reply that isn't its actor's next one, by tables without an actor.
+fn find_early_by(
+    transcript: &Transcript,
+    answered: &CallSet,
+    calls: &[CallName],
+    reached: &mut ActorTable,
+    firsts: &mut ActorTable,
+) -> Result<Option<Verdict>, AllocError>
+    requires few { length (answered_calls transcript.now) < 2 ^ 32 }
+    requires answered { IsSetOf answered.now (answered_calls transcript.now) }
+    requires reached { (call : CallName) → value_at reached.old call ≡ None }
+    requires firsts { (call : CallName) → value_at firsts.old call ≡ None }
+    ensures { IfOk result (λ found. found ≡ first_fault_along (λ before call. option_or (is_only_one (find (same_actor call) before) call) (is_next_call (answered_calls transcript.now) call)) calls.now) }
+{
+    for call in calls {
+        if let Some(fault) = is_only_one(firsts.get(*call), *call) {
+            return Ok(Some(fault));
+        }
+        if let Some(fault) = is_next_call(transcript, answered, reached, *call)? {
+            return Ok(Some(fault));
+        }
+        firsts.set(*call, u64::from(number_of(*call)))?;
+    }
+    Ok(None)
+}
+
 // The first call without a reply that isn't its actor's next one.
 fn find_early(
     alloc: Global,
@@ -104,16 +130,7 @@ fn find_early(
 {
     let mut reached = ActorTable::new(alloc);
     let mut firsts = ActorTable::new(alloc);
-    for call in calls {
-        if let Some(fault) = is_only_one(firsts.get(*call), *call) {
-            return Ok(Some(fault));
-        }
-        if let Some(fault) = is_next_call(transcript, answered, &mut reached, *call)? {
-            return Ok(Some(fault));
-        }
-        firsts.set(*call, u64::from(number_of(*call)))?;
-    }
-    Ok(None)
+    find_early_by(transcript, answered, calls, &mut reached, &mut firsts)
 }
 
 /// The first line of a call without a reply that is wrong, those of the history first. The set is

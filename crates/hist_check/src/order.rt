@@ -1,11 +1,11 @@
 //! The rule on the order of answers: each actor's answered calls are its first ones, each answered
 //! once.
-ghost use Rattle.std.specs.Prelude.{◌≡◌, ◌<◌, ◌≤◌, ◌^◌, ◌↔◌, ℕ, List, true, length, map, filter, IsTrue, IfOk, OnOk};
+ghost use Rattle.std.specs.Prelude.{◌≡◌, ◌<◌, ◌≤◌, ◌^◌, ◌↔◌, ℕ, List, true, false, None, length, map, filter, IsTrue, IfOk, OnOk};
 ghost use Rattle.hist_rules.specs.Calls.{with_number, number_of, is_named};
 ghost use Rattle.hist_rules.specs.CallsInOrder.{follows, follows_answered, is_first_answer, calls_in_order};
 ghost use Rattle.hist_rules.specs.Named.{answered_calls};
 ghost use Rattle.store_map.specs.declared.call_name.CallName.{CallName};
-ghost use Rattle.hist_tables.specs.Tables.{has, IsSetOf};
+ghost use Rattle.hist_tables.specs.Tables.{has, value_at, IsSetOf};
 ghost use Rattle.hist_check.specs.Reached.{AreReached};
 ghost use Rattle.hist_check.specs.Searched.{IsSearched};
 
@@ -122,6 +122,32 @@ fn find_disorder<L: NamesCall>(
     Ok(None)
 }
 
+// The first answer that stands out of order, by a table and a set without calls. The first set is
+// that of the answered calls.
+fn find_wrong_answer_by(
+    transcript: &Transcript,
+    set: &CallSet,
+    reached: &mut ActorTable,
+    before: &mut CallSet,
+) -> Result<Option<Verdict>, AllocError>
+    requires few { length (answered_calls transcript.now) < 2 ^ 32 }
+    requires set { IsSetOf set.now (answered_calls transcript.now) }
+    requires reached { (call : CallName) → value_at reached.old call ≡ None }
+    requires before { (call : CallName) → has before.old call ≡ false }
+    ensures { IfOk result (λ found. found ≡ calls_in_order transcript.now) }
+{
+    let replies = transcript.history.as_slice();
+    if let Some(fault) = find_disorder(transcript, set, reached, before, replies)? {
+        return Ok(Some(fault));
+    }
+    let refusals = transcript.refused.as_slice();
+    if let Some(fault) = find_disorder(transcript, set, reached, before, refusals)? {
+        return Ok(Some(fault));
+    }
+    let results = transcript.repairs.as_slice();
+    find_disorder(transcript, set, reached, before, results)
+}
+
 /// The first answer that stands out of order. The set is that of the answered calls.
 pub fn find_wrong_answer(
     alloc: Global,
@@ -134,14 +160,5 @@ pub fn find_wrong_answer(
 {
     let mut reached = ActorTable::new(alloc);
     let mut before = CallSet::new(alloc);
-    let replies = transcript.history.as_slice();
-    if let Some(fault) = find_disorder(transcript, set, &mut reached, &mut before, replies)? {
-        return Ok(Some(fault));
-    }
-    let refusals = transcript.refused.as_slice();
-    if let Some(fault) = find_disorder(transcript, set, &mut reached, &mut before, refusals)? {
-        return Ok(Some(fault));
-    }
-    let results = transcript.repairs.as_slice();
-    find_disorder(transcript, set, &mut reached, &mut before, results)
+    find_wrong_answer_by(transcript, set, &mut reached, &mut before)
 }

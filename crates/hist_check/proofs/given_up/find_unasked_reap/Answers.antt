@@ -1,24 +1,4 @@
-use Rattle.std.proofs.Common.{◌+◌, ℕ, Option, sym, ap, ◌∙◌, take}
-use Rattle.std.specs.Prelude.{reverse, count_by, unwrap_or}
-use Rattle.hist_rules.specs.Calls.{same_actor}
-use Rattle.hist_rules.specs.First.{first_fault_along}
-use Rattle.hist_rules.specs.GivenUp.{is_reaped}
-use Rattle.hist_tables.specs.Tables.{value_at}
-use Rattle.hist_tables.proofs.Faults.{after_fits, before_more}
-use Rattle.hist_check.proofs.Reaped.{counted_more, reaped_by}
 use Rattle.hist_check.proofs.given_up.find_unasked_reap.Goals as goal
 
-pub loop-call-preserved : goal.loop-call-preserved
-loop-call-preserved c =
-    let r = is_reaped c.args.script.now in
-    let calls = c.args.calls.now in
-    let before = reverse (take c.loop-call.call-index calls) in
-    let counted = c.unwrap_or-count.ensures ∙ ap (λ (o : Option ℕ). unwrap_or o 0) c.get.ensures in
-    record {
-      so_far =
-          after_fits r calls c.loop-call.call-index _ (first_fault_along r calls) c.loop-call.invariant.so_far c.loop-call-test.true
-          (sym (c.in_default.ensures ∙ reaped_by c.args.script.now before _ _ _ (counted ∙ c.loop-call.invariant.counts _) (c.of-asked.ensures ∙ c.in_ok-reaps.ensures _)));
-      counts = λ call.
-          counted_more (value_at c.loop-call.counts) (value_at c.set.new.self) before _ _ c.loop-call.invariant.counts (ap (λ (n : ℕ). n + 1) counted) c.in_ok-set.ensures call
-          ∙ ap (count_by (same_actor call)) (sym (before_more calls c.loop-call.call-index _ c.loop-call-test.true));
-    }
+pub returns : goal.returns
+returns c = c.find_unasked_reap_by.ensures c.args.script.now c.in_ok-reaps.ensures

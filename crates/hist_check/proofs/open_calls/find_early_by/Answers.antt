@@ -7,7 +7,7 @@ use Rattle.hist_tables.proofs.Faults.{after_fits, after_found, none_after, or_fi
 use Rattle.hist_check.proofs.Numbers.{numbers_put}
 use Rattle.hist_check.proofs.Rules.{open_fault}
 use Rattle.std.proofs.lemmas.List.{get_or_default}
-use Rattle.hist_check.proofs.open_calls.find_early.Goals as goal
+use Rattle.hist_check.proofs.open_calls.find_early_by.Goals as goal
 
 pub returns-in-Some : goal.returns-in-Some
 returns-in-Some c =

@@ -8,7 +8,7 @@ use Rattle.hist_rules.specs.First.{first_fault_after, first_fault_along}
 use Rattle.hist_rules.specs.OneOpenCall.{is_only_one, is_next_call}
 use Rattle.hist_tables.specs.Tables.{value_at}
 use Rattle.hist_check.specs.Reached.{AreReached}
-use Rattle.hist_check.proofs.open_calls.find_early.Given as goal
+use Rattle.hist_check.proofs.open_calls.find_early_by.Given as goal
 
 abbrev pub invariant-loop-call : goal.invariant-loop-call
 invariant-loop-call l = record {
