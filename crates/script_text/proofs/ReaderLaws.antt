@@ -30,7 +30,8 @@ use Rattle.line_grammar.specs.Line.{Line, ClayLine, CodeLine, SizeLine, TriesLin
 use Rattle.line_grammar.specs.Words.{token_words, call_words, rebuild_words}
 use Rattle.line_grammar.specs.Lines.{Lacks, spaced, IsFirstWord}
 use Rattle.line_grammar.specs.Numbers.{number_word}
-use Rattle.script_text.specs.Place.{next_place, kind_named}
+use Rattle.script_text.specs.Kinds.{kind_named}
+use Rattle.script_text.specs.Place.{next_place}
 use Rattle.script_text.specs.Reader.{script_of, IsSound, IsOfKind, IsTaken, Takes}
 use Rattle.line_grammar.specs.ReadsLine.{ReadsNumbered, ReadsToken, ReadsRebuild}
 use Rattle.line_grammar.specs.Reads.{ReadsCall, FitsCall}

@@ -1,11 +1,11 @@
 -- Laws on text that is appended.
 use Rattle.std.proofs.Common.{◌≡◌, ℕ, ◌^◌, ◌<◌, List, [], ◌∷◌, ◌++◌, Result, Ok, Err, sym, ap, ◌∙◌, append_assoc, append-nil}
-use Rattle.std.specs.Prelude.{OnOk, is_ok, if◌then◌else◌, Option, None, Some, map, codes}
+use Rattle.std.specs.Prelude.{OnOk, is_ok, if◌then◌else◌, Option, None, Some, map}
 use Rattle.std.specs.List.{flat_map}
 use Rattle.std.proofs.lemmas.Grind.{flat_map-append}
 use Rattle.store_map.specs.declared.script.Script.{Script}
 use Rattle.line_grammar.specs.Line.{Line, ClayLine, CodeLine, SizeLine, TriesLine, LeaveLine, ScheduleLine, StepLine, EndLine, line_text}
-use Rattle.script_text.specs.Spelling.{limited, optional_line, client_lines, repairer_lines, spelling}
+use Rattle.script_text.specs.Spelling.{limited, optional_line, client_lines, repairer_lines, head_lines, spelling}
 use Rattle.std.specs.Fmt.{decimal}
 use Rattle.line_grammar.specs.Numbers.{number_word}
 use Rattle.line_grammar.proofs.NumberLaws.{number_word_is}
@@ -58,35 +58,36 @@ pub on_ok : (E : Type 0) (r : Result (Unit {0}) E) (P Q : Type 0) → (P → Q) 
 on_ok E (Ok u) P Q f p = f p
 on_ok E (Err e) P Q f p = tt
 
--- the bytes of seven groups of lines
-flat_of_seven : (a s t c r k e : List Line) → flat_map line_text ((((((a ++ s) ++ t) ++ c) ++ r) ++ k) ++ e)
-    ≡ (((((flat_map line_text a ++ flat_map line_text s) ++ flat_map line_text t) ++ flat_map line_text c) ++ flat_map line_text r) ++ flat_map line_text k) ++ flat_map line_text e
-flat_of_seven a s t c r k e =
-    let two = flat_map-append line_text a s in
-    let three = flat_map-append line_text (a ++ s) t ∙ ap (λ (l : List ℕ). l ++ flat_map line_text t) two in
-    let four = flat_map-append line_text ((a ++ s) ++ t) c ∙ ap (λ (l : List ℕ). l ++ flat_map line_text c) three in
-    let five = flat_map-append line_text (((a ++ s) ++ t) ++ c) r ∙ ap (λ (l : List ℕ). l ++ flat_map line_text r) four in
-    let six = flat_map-append line_text ((((a ++ s) ++ t) ++ c) ++ r) k ∙ ap (λ (l : List ℕ). l ++ flat_map line_text k) five in
-    flat_map-append line_text (((((a ++ s) ++ t) ++ c) ++ r) ++ k) e ∙ ap (λ (l : List ℕ). l ++ flat_map line_text e) six
+-- the bytes of some more lines
+flat_more : (front back : List Line) (bytes : List ℕ) → flat_map line_text front ≡ bytes → flat_map line_text (front ++ back) ≡ bytes ++ flat_map line_text back
+flat_more front back bytes is = flat_map-append line_text front back ∙ ap (λ (l : List ℕ). l ++ flat_map line_text back) is
 
--- the parts of a script, one after the other
-pub script_written : (script : Script) (t0 t1 t2 t3 t4 t5 t6 t7 t8 : List ℕ) → t0 ≡ line_text (ClayLine script.form) → t1 ≡ t0 ++ line_text (CodeLine script.geometry)
+-- the lines before the blocks, one after the other
+pub head_written : (script : Script) (t0 t1 t2 t3 : List ℕ) → t0 ≡ line_text (ClayLine script.form) → t1 ≡ t0 ++ line_text (CodeLine script.geometry)
     → t2 ≡ t1 ++ flat_map line_text (optional_line SizeLine script.size) → t3 ≡ t2 ++ flat_map line_text (optional_line TriesLine script.tries)
-    → t4 ≡ t3 ++ flat_map line_text (flat_map client_lines script.clients) → t5 ≡ t4 ++ flat_map line_text (flat_map repairer_lines script.repairers)
-    → t6 ≡ t5 ++ codes "schedule\n" → t7 ≡ t6 ++ flat_map line_text (map StepLine script.schedule) → t8 ≡ t7 ++ codes "end\n"
-    → t8 ≡ spelling script
-unfolding spelling
-script_written script t0 t1 t2 t3 t4 t5 t6 t7 t8 e0 e1 e2 e3 e4 e5 e6 e7 e8 =
+    → t3 ≡ flat_map line_text (head_lines script)
+head_written script t0 t1 t2 t3 e0 e1 e2 e3 =
     let a : List Line = ClayLine script.form ∷ CodeLine script.geometry ∷ [] in
-    let m = flat_map line_text (map StepLine script.schedule) in
-    let k : List Line = ScheduleLine ∷ map StepLine script.schedule in
-    let e : List Line = EndLine ∷ [] in
-    let whole = flat_of_seven a (optional_line SizeLine script.size) (optional_line TriesLine script.tries) (flat_map client_lines script.clients)
-    (flat_map repairer_lines script.repairers) k e in
+    let s = optional_line SizeLine script.size in
+    let t = optional_line TriesLine script.tries in
     let opening : t1 ≡ flat_map line_text a =
     e1 ∙ ap (λ (l : List ℕ). l ++ line_text (CodeLine script.geometry)) e0 ∙ ap (λ (l : List ℕ). line_text (ClayLine script.form) ++ l) (sym (append-nil (line_text (CodeLine script.geometry)))) in
-    let scheduled : t7 ≡ t5 ++ flat_map line_text k = e7 ∙ ap (λ (l : List ℕ). l ++ m) e6 ∙ append_assoc t5 (codes "schedule\n") m in
-    let all : t8 ≡ ((((flat_map line_text a ++ flat_map line_text (optional_line SizeLine script.size)) ++ flat_map line_text (optional_line TriesLine script.tries))
-    ++ flat_map line_text (flat_map client_lines script.clients)) ++ flat_map line_text (flat_map repairer_lines script.repairers)) ++ flat_map line_text k ++ codes "end\n" =
-    cc in
-    all ∙ sym whole
+    let sized : t2 ≡ flat_map line_text (a ++ s) = e2 ∙ sym (flat_more a s t1 (sym opening)) in
+    e3 ∙ sym (flat_more (a ++ s) t t2 (sym sized))
+
+-- the parts of a script, one after the other
+pub script_written : (script : Script) (t0 t1 t2 t3 : List ℕ) → t0 ≡ flat_map line_text (head_lines script)
+    → t1 ≡ t0 ++ flat_map line_text (flat_map client_lines script.clients) → t2 ≡ t1 ++ flat_map line_text (flat_map repairer_lines script.repairers)
+    → t3 ≡ t2 ++ flat_map line_text (ScheduleLine ∷ map StepLine script.schedule) ++ line_text EndLine
+    → t3 ≡ spelling script
+unfolding spelling
+script_written script t0 t1 t2 t3 e0 e1 e2 e3 =
+    let h = head_lines script in
+    let c = flat_map client_lines script.clients in
+    let r = flat_map repairer_lines script.repairers in
+    let k : List Line = ScheduleLine ∷ map StepLine script.schedule in
+    let e : List Line = EndLine ∷ [] in
+    let called : t1 ≡ flat_map line_text (h ++ c) = e1 ∙ sym (flat_more h c t0 (sym e0)) in
+    let rebuilt : t2 ≡ flat_map line_text ((h ++ c) ++ r) = e2 ∙ sym (flat_more (h ++ c) r t1 (sym called)) in
+    let scheduled = flat_more ((h ++ c) ++ r) k t2 (sym rebuilt) in
+    e3 ∙ sym (flat_more (((h ++ c) ++ r) ++ k) e (t2 ++ flat_map line_text k) scheduled)

@@ -1,4 +1,5 @@
 pub mod Spelling
+pub mod Kinds
 pub mod Place
 pub mod Begun
 pub mod Behind

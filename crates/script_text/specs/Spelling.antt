@@ -26,11 +26,16 @@ abbrev pub optional_line : (ℕ → Line) → Option ℕ → List Line
 optional_line make None = []
 optional_line make (Some n) = make n ∷ []
 
+-- the lines before the blocks
+abbrev pub head_lines : Script → List Line
+head_lines script =
+    (ClayLine script.form ∷ CodeLine script.geometry ∷ [])
+    ++ optional_line SizeLine script.size ++ optional_line TriesLine script.tries
+
 -- all lines of a script
 abbrev pub script_lines : Script → List Line
 script_lines script =
-    (ClayLine script.form ∷ CodeLine script.geometry ∷ [])
-    ++ optional_line SizeLine script.size ++ optional_line TriesLine script.tries
+    head_lines script
     ++ flat_map client_lines script.clients ++ flat_map repairer_lines script.repairers
     ++ (ScheduleLine ∷ map StepLine script.schedule) ++ (EndLine ∷ [])
 

@@ -1,6 +1,7 @@
 //! Which line may stand behind which in a script, by its first word.
-ghost use Rattle.std.specs.Prelude.{◌≡◌};
-ghost use Rattle.script_text.specs.Place.{is_call_word, is_step_word, frame_named, kind_named, next_place, next_block, next_repairer};
+ghost use Rattle.std.specs.Prelude.{◌≡◌, bytes_eq};
+ghost use Rattle.script_text.specs.Kinds.{is_call_word, is_step_word, head_named, frame_named, kind_named};
+ghost use Rattle.script_text.specs.Place.{next_place, next_block, next_repairer};
 
 /// What a line of a script is, by its first word.
 #[derive(Clone, Copy, PartialEq, Eq, Debug)]
@@ -38,54 +39,70 @@ pub enum Place {
     End,
 }
 
+// Whether the word is this one.
+fn is_word(word: &[u8], other: &[u8]) -> bool
+    ensures { result ≡ bytes_eq word.now other.now }
+{
+    word == other
+}
+
 // Whether a call of a client begins with this word.
 fn is_call_word(word: &[u8]) -> bool
     ensures { result ≡ is_call_word word.now }
 {
-    word == b"put".as_slice()
-        || word == b"write".as_slice()
-        || word == b"get".as_slice()
-        || word == b"read".as_slice()
-        || word == b"stat".as_slice()
-        || word == b"delete".as_slice()
+    is_word(word, b"put")
+        || is_word(word, b"write")
+        || is_word(word, b"get")
+        || is_word(word, b"read")
+        || is_word(word, b"stat")
+        || is_word(word, b"delete")
 }
 
 // Whether a line of the schedule begins with this word.
 fn is_step_word(word: &[u8]) -> bool
     ensures { result ≡ is_step_word word.now }
 {
-    word == b"c".as_slice()
-        || word == b"r".as_slice()
-        || word == b"s".as_slice()
-        || word == b"wipe".as_slice()
-        || word == b"down".as_slice()
-        || word == b"up".as_slice()
-        || word == b"reap".as_slice()
-        || word == b"drain".as_slice()
+    is_word(word, b"c")
+        || is_word(word, b"r")
+        || is_word(word, b"s")
+        || is_word(word, b"wipe")
+        || is_word(word, b"down")
+        || is_word(word, b"up")
+        || is_word(word, b"reap")
+        || is_word(word, b"drain")
+}
+
+// The kind of the lines that begin with this word and stand before the blocks.
+fn head_named(word: &[u8]) -> Option<LineKind>
+    ensures { result ≡ head_named word.now }
+{
+    if is_word(word, b"size") {
+        Some(LineKind::Size)
+    } else if is_word(word, b"tries") {
+        Some(LineKind::Tries)
+    } else if is_word(word, b"clay") {
+        Some(LineKind::Clay)
+    } else if is_word(word, b"code") {
+        Some(LineKind::Code)
+    } else {
+        None
+    }
 }
 
 // The kind of the lines that begin with this word and stand outside a block or begin one.
 fn frame_named(word: &[u8]) -> Option<LineKind>
     ensures { result ≡ frame_named word.now }
 {
-    if word == b"client".as_slice() {
+    if is_word(word, b"client") {
         Some(LineKind::Client)
-    } else if word == b"repairer".as_slice() {
+    } else if is_word(word, b"repairer") {
         Some(LineKind::Repairer)
-    } else if word == b"schedule".as_slice() {
+    } else if is_word(word, b"schedule") {
         Some(LineKind::Schedule)
-    } else if word == b"end".as_slice() {
+    } else if is_word(word, b"end") {
         Some(LineKind::End)
-    } else if word == b"size".as_slice() {
-        Some(LineKind::Size)
-    } else if word == b"tries".as_slice() {
-        Some(LineKind::Tries)
-    } else if word == b"clay".as_slice() {
-        Some(LineKind::Clay)
-    } else if word == b"code".as_slice() {
-        Some(LineKind::Code)
     } else {
-        None
+        head_named(word)
     }
 }
 
@@ -97,9 +114,9 @@ pub fn kind_named(word: &[u8]) -> Option<LineKind>
         Some(LineKind::Step)
     } else if is_call_word(word) {
         Some(LineKind::Call)
-    } else if word == b"rebuild".as_slice() {
+    } else if is_word(word, b"rebuild") {
         Some(LineKind::Rebuild)
-    } else if word == b"leave".as_slice() {
+    } else if is_word(word, b"leave") {
         Some(LineKind::Leave)
     } else {
         frame_named(word)

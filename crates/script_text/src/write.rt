@@ -1,17 +1,17 @@
 //! Writing a script as the one text that spells it.
 ghost use Rattle.std.specs.Prelude.{◌≡◌, ◌++◌, ◌∷◌, [], codes, map, IfOk, OnOk, Option};
 ghost use Rattle.std.specs.List.{flat_map};
-ghost use Rattle.line_grammar.specs.Line.{CallLine, RebuildLine, StepLine, LeaveLine, SizeLine, TriesLine, CodeLine, line_text};
-ghost use Rattle.line_grammar.specs.Words.{content_word, call_words};
+ghost use Rattle.line_grammar.specs.Line.{CallLine, RebuildLine, StepLine, LeaveLine, SizeLine, TriesLine, CodeLine, ScheduleLine, EndLine, line_text};
+ghost use Rattle.line_grammar.specs.Words.{run_word, content_word, call_words};
 ghost use Rattle.line_grammar.specs.Lines.{spaced};
 ghost use Rattle.line_grammar.specs.Numbers.{number_word};
-ghost use Rattle.script_text.specs.Spelling.{client_lines, repairer_lines, optional_line, spelling};
+ghost use Rattle.script_text.specs.Spelling.{client_lines, repairer_lines, optional_line, head_lines, spelling};
 ghost use Rattle.hex.specs.Hex.{encode_lower};
 
 use clay_grid::Geometry;
 use itoa::Buffer;
 use std::alloc::{AllocError, Global};
-use store_map::{Call, ClientPart, Content, Rebuild, RepairPart, Script, Token};
+use store_map::{Call, ClientPart, Content, Name, Rebuild, RepairPart, Script, Token};
 
 // Appends a number's decimal digits.
 fn push_number(text: &mut Vec<u8>, number: u32) -> Result<(), AllocError>
@@ -29,16 +29,41 @@ fn push_digits(alloc: Global, text: &mut Vec<u8>, bytes: &[u8]) -> Result<(), Al
     text.extend_from_slice(digits.as_bytes())
 }
 
+// Appends a space and a number.
+fn push_spaced(text: &mut Vec<u8>, number: u32) -> Result<(), AllocError>
+    ensures { OnOk result (text.new.items ≡ text.old.items ++ 32 ∷ number_word number) }
+{
+    text.push(b' ')?;
+    push_number(text, number)
+}
+
 // Appends a word and a number behind a space, and ends the line.
 fn push_numbered(text: &mut Vec<u8>, word: &[u8], number: u32) -> Result<(), AllocError>
     ensures { OnOk result
         (text.new.items ≡ text.old.items ++ (spaced (word.now ∷ number_word number ∷ []) ++ 10 ∷ [])) }
 {
     text.extend_from_slice(word)?;
-    text.push(b' ')?;
-    push_number(text, number)?;
+    push_spaced(text, number)?;
     text.push(b'\n')?;
     Ok(())
+}
+
+// Appends a word and a name behind a space.
+fn push_named(text: &mut Vec<u8>, word: &[u8], name: &Name) -> Result<(), AllocError>
+    ensures { OnOk result (text.new.items ≡ text.old.items ++ spaced (word.now ∷ name.now ∷ [])) }
+{
+    text.extend_from_slice(word)?;
+    text.push(b' ')?;
+    text.extend_from_slice(name.as_bytes())
+}
+
+// Appends a byte's digits and a length, with a colon between.
+fn push_run(alloc: Global, text: &mut Vec<u8>, byte: u8, length: u32) -> Result<(), AllocError>
+    ensures { OnOk result (text.new.items ≡ text.old.items ++ run_word byte length) }
+{
+    push_digits(alloc, text, &[byte])?;
+    text.push(b':')?;
+    push_number(text, length)
 }
 
 // Appends the word of a call's data.
@@ -52,17 +77,25 @@ fn push_content(alloc: Global, text: &mut Vec<u8>, content: &Content) -> Result<
         }
         Content::Fill { byte, length } => {
             text.extend_from_slice(b"fill:")?;
-            push_digits(alloc, text, &[*byte])?;
-            text.push(b':')?;
-            push_number(text, *length)
+            push_run(alloc, text, *byte, *length)
         }
         Content::Ramp { first, length } => {
             text.extend_from_slice(b"ramp:")?;
-            push_digits(alloc, text, &[*first])?;
-            text.push(b':')?;
-            push_number(text, *length)
+            push_run(alloc, text, *first, *length)
         }
     }
+}
+
+// Appends a space and the word of a call's data.
+fn push_spaced_content(
+    alloc: Global,
+    text: &mut Vec<u8>,
+    content: &Content,
+) -> Result<(), AllocError>
+    ensures { OnOk result (text.new.items ≡ text.old.items ++ 32 ∷ content_word content.now) }
+{
+    text.push(b' ')?;
+    push_content(alloc, text, content)
 }
 
 // Appends the words of a call, without a line feed.
@@ -71,47 +104,30 @@ fn push_call_words(alloc: Global, text: &mut Vec<u8>, call: &Call) -> Result<(),
 {
     match call {
         Call::Put { name, content } => {
-            text.extend_from_slice(b"put ")?;
-            text.extend_from_slice(name.as_bytes())?;
-            text.push(b' ')?;
-            push_content(alloc, text, content)
+            push_named(text, b"put", name)?;
+            push_spaced_content(alloc, text, content)
         }
         Call::Write {
             name,
             offset,
             content,
         } => {
-            text.extend_from_slice(b"write ")?;
-            text.extend_from_slice(name.as_bytes())?;
-            text.push(b' ')?;
-            push_number(text, *offset)?;
-            text.push(b' ')?;
-            push_content(alloc, text, content)
+            push_named(text, b"write", name)?;
+            push_spaced(text, *offset)?;
+            push_spaced_content(alloc, text, content)
         }
-        Call::Get { name } => {
-            text.extend_from_slice(b"get ")?;
-            text.extend_from_slice(name.as_bytes())
-        }
+        Call::Get { name } => push_named(text, b"get", name),
         Call::ReadAt {
             name,
             offset,
             length,
         } => {
-            text.extend_from_slice(b"read ")?;
-            text.extend_from_slice(name.as_bytes())?;
-            text.push(b' ')?;
-            push_number(text, *offset)?;
-            text.push(b' ')?;
-            push_number(text, *length)
+            push_named(text, b"read", name)?;
+            push_spaced(text, *offset)?;
+            push_spaced(text, *length)
         }
-        Call::Stat { name } => {
-            text.extend_from_slice(b"stat ")?;
-            text.extend_from_slice(name.as_bytes())
-        }
-        Call::Delete { name } => {
-            text.extend_from_slice(b"delete ")?;
-            text.extend_from_slice(name.as_bytes())
-        }
+        Call::Stat { name } => push_named(text, b"stat", name),
+        Call::Delete { name } => push_named(text, b"delete", name),
     }
 }
 
@@ -128,12 +144,9 @@ fn push_call(alloc: Global, text: &mut Vec<u8>, call: &Call) -> Result<(), Alloc
 fn push_rebuild(text: &mut Vec<u8>, rebuild: &Rebuild) -> Result<(), AllocError>
     ensures { OnOk result (text.new.items ≡ text.old.items ++ line_text (RebuildLine rebuild.now)) }
 {
-    text.extend_from_slice(b"rebuild ")?;
-    text.extend_from_slice(rebuild.name.as_bytes())?;
-    text.push(b' ')?;
-    push_number(text, rebuild.stripe)?;
-    text.push(b' ')?;
-    push_number(text, rebuild.server)?;
+    push_named(text, b"rebuild", &rebuild.name)?;
+    push_spaced(text, rebuild.stripe)?;
+    push_spaced(text, rebuild.server)?;
     text.push(b'\n')?;
     Ok(())
 }
@@ -159,12 +172,10 @@ fn push_token(text: &mut Vec<u8>, token: Token) -> Result<(), AllocError>
 fn push_code(text: &mut Vec<u8>, geometry: Geometry) -> Result<(), AllocError>
     ensures { OnOk result (text.new.items ≡ text.old.items ++ line_text (CodeLine geometry)) }
 {
-    text.extend_from_slice(b"code ")?;
-    push_number(text, geometry.k())?;
-    text.push(b' ')?;
-    push_number(text, geometry.m())?;
-    text.push(b' ')?;
-    push_number(text, geometry.w())?;
+    text.extend_from_slice(b"code")?;
+    push_spaced(text, geometry.k())?;
+    push_spaced(text, geometry.m())?;
+    push_spaced(text, geometry.w())?;
     text.push(b'\n')?;
     Ok(())
 }
@@ -289,21 +300,36 @@ fn push_repairers(text: &mut Vec<u8>, parts: &[RepairPart]) -> Result<(), AllocE
     Ok(())
 }
 
+// Appends the lines before the blocks to a text without bytes.
+fn push_head(text: &mut Vec<u8>, script: &Script) -> Result<(), AllocError>
+    requires { text.old.items ≡ [] }
+    ensures { OnOk result (text.new.items ≡ flat_map line_text (head_lines script.now)) }
+{
+    push_numbered(text, b"clay", script.form)?;
+    push_code(text, script.geometry)?;
+    push_size(text, script.size)?;
+    push_tries(text, script.tries)
+}
+
+// Appends the lines behind the blocks.
+fn push_tail(text: &mut Vec<u8>, tokens: &[Token]) -> Result<(), AllocError>
+    ensures { OnOk result (text.new.items ≡ text.old.items
+        ++ flat_map line_text (ScheduleLine ∷ map StepLine tokens.now) ++ line_text EndLine) }
+{
+    text.extend_from_slice(b"schedule\n")?;
+    push_schedule(text, tokens)?;
+    text.extend_from_slice(b"end\n")
+}
+
 // Appends all lines to a text without bytes.
 fn push_script(alloc: Global, text: &mut Vec<u8>, script: &Script) -> Result<(), AllocError>
     requires { text.old.items ≡ [] }
     ensures { OnOk result (text.new.items ≡ spelling script.now) }
 {
-    push_numbered(text, b"clay", script.form)?;
-    push_code(text, script.geometry)?;
-    push_size(text, script.size)?;
-    push_tries(text, script.tries)?;
+    push_head(text, script)?;
     push_clients(alloc, text, script.clients.as_slice())?;
     push_repairers(text, script.repairers.as_slice())?;
-    text.extend_from_slice(b"schedule\n")?;
-    push_schedule(text, script.schedule.as_slice())?;
-    text.extend_from_slice(b"end\n")?;
-    Ok(())
+    push_tail(text, script.schedule.as_slice())
 }
 
 /// The bytes that spell the script, which may be of any values, also beyond the limits. A step limit
