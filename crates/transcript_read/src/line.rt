@@ -1,5 +1,5 @@
 //! A transcript's lines, read kind by kind.
-ghost use Rattle.std.specs.Prelude.{◌≡◌, ◌++◌, ◌↔◌, ℕ, IsTrue, codes};
+ghost use Rattle.std.specs.Prelude.{◌≡◌, ◌≢◌, ◌++◌, ◌↔◌, ℕ, List, IsTrue, codes};
 ghost use Rattle.std.specs.List.{list_any};
 ghost use Rattle.transcript_read.specs.Reads.{Reads};
 ghost use Rattle.transcript_read.specs.Bodies.{line_body, history_body, refused_body, repair_body, unanswered_body, object_body, takes_body, server_body};
@@ -104,6 +104,31 @@ fn read_server(alloc: Global, text: &[u8]) -> Result<TLine, Unread>
     })
 }
 
+// Reads an object's, a server's or the last line, or what a call took of the servers, from the
+// whole line. It is no line of another kind.
+fn read_state(alloc: Global, servers: u32, text: &[u8]) -> Result<Line, Unread>
+    requires history { (rest : List ℕ) → text.now ≢ codes "H " ++ rest }
+    requires refused { (rest : List ℕ) → text.now ≢ codes "X " ++ rest }
+    requires repair { (rest : List ℕ) → text.now ≢ codes "R " ++ rest }
+    requires unanswered { (rest : List ℕ) → text.now ≢ codes "O " ++ rest }
+    ensures { Reads (IsLine servers) line_body text.now result }
+{
+    if let Some(rest) = behind(b"L ", text) {
+        return Ok(Line::Object(read_object(alloc, rest)?));
+    }
+    if let Some(rest) = behind(b"G ", text) {
+        return Ok(Line::Takes(read_takes(alloc, servers, rest)?));
+    }
+    if let Some(rest) = behind(b"T ", text) {
+        return Ok(Line::Server(read_server(alloc, rest)?));
+    }
+    if is_text(text, b"end") {
+        Ok(Line::End)
+    } else {
+        Err(Unread::Syntax)
+    }
+}
+
 impl Line {
     /// The line that a text spells, without its line feed, where there are so many servers.
     pub fn read(alloc: Global, servers: u32, text: &[u8]) -> Result<Line, Unread>
@@ -121,19 +146,6 @@ impl Line {
         if let Some(rest) = behind(b"O ", text) {
             return Ok(Line::Unanswered(read_unanswered(alloc, rest)?));
         }
-        if let Some(rest) = behind(b"L ", text) {
-            return Ok(Line::Object(read_object(alloc, rest)?));
-        }
-        if let Some(rest) = behind(b"G ", text) {
-            return Ok(Line::Takes(read_takes(alloc, servers, rest)?));
-        }
-        if let Some(rest) = behind(b"T ", text) {
-            return Ok(Line::Server(read_server(alloc, rest)?));
-        }
-        if is_text(text, b"end") {
-            Ok(Line::End)
-        } else {
-            Err(Unread::Syntax)
-        }
+        read_state(alloc, servers, text)
     }
 }

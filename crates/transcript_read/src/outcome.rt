@@ -1,5 +1,5 @@
 //! Causes of refusals and results of rebuilds as fields of lines.
-ghost use Rattle.std.specs.Prelude.{◌++◌, codes};
+ghost use Rattle.std.specs.Prelude.{◌≡◌, ◌≢◌, ◌++◌, codes, IfSome, IfNone};
 ghost use Rattle.transcript_text.specs.Words.{cause_text, result_text};
 ghost use Rattle.transcript_read.specs.Reasons.{IsCause, IsResult, IsLost, IsPairs, lost_text, pairs_text};
 ghost use Rattle.transcript_read.specs.Reads.{Reads};
@@ -61,6 +61,27 @@ impl Field for Cause {
     }
 }
 
+// The result that is spelled by one word.
+fn result_named(word: &[u8]) -> Option<RepairResult>
+    ensures some { IfSome result (λ outcome. IsResult outcome × (word.now ≡ result_text outcome)) }
+    ensures none { IfNone result ((word.now ≢ codes "rebuilt") × (word.now ≢ codes "here")
+        × (word.now ≢ codes "nosuch") × (word.now ≢ codes "nomem")) }
+{
+    if is_text(word, b"rebuilt") {
+        return Some(RepairResult::Rebuilt);
+    }
+    if is_text(word, b"here") {
+        return Some(RepairResult::Here);
+    }
+    if is_text(word, b"nosuch") {
+        return Some(RepairResult::NoSuch);
+    }
+    if is_text(word, b"nomem") {
+        return Some(RepairResult::NoMemory);
+    }
+    None
+}
+
 impl Field for RepairResult {
     ghost IsValue = { IsResult };
 
@@ -83,18 +104,9 @@ impl Field for RepairResult {
             let downs = u64::read(alloc, count)?;
             return Ok(RepairResult::Away { downs });
         }
-        if is_text(text, b"rebuilt") {
-            return Ok(RepairResult::Rebuilt);
+        match result_named(text) {
+            Some(outcome) => Ok(outcome),
+            None => Err(Unread::Syntax),
         }
-        if is_text(text, b"here") {
-            return Ok(RepairResult::Here);
-        }
-        if is_text(text, b"nosuch") {
-            return Ok(RepairResult::NoSuch);
-        }
-        if is_text(text, b"nomem") {
-            return Ok(RepairResult::NoMemory);
-        }
-        Err(Unread::Syntax)
     }
 }

@@ -1,5 +1,5 @@
 //! Names and replies as fields of lines.
-ghost use Rattle.std.specs.Prelude.{◌++◌, codes};
+ghost use Rattle.std.specs.Prelude.{◌≡◌, ◌≢◌, ◌++◌, codes, IfSome, IfNone};
 ghost use Rattle.hex.specs.Hex.{encode_lower, IsBytes};
 ghost use Rattle.store_map.specs.Name.{IsName};
 ghost use Rattle.transcript_text.specs.Words.{shown_text};
@@ -38,6 +38,30 @@ impl Field for Name {
     }
 }
 
+// What is spelled by one word.
+fn shown_named(word: &[u8]) -> Option<Shown>
+    ensures some { IfSome result (λ shown. IsShown shown × (word.now ≡ shown_text shown)) }
+    ensures none { IfNone result ((word.now ≢ codes "ok") × (word.now ≢ codes "nosuch")
+        × (word.now ≢ codes "outrange") × (word.now ≢ codes "toolarge") × (word.now ≢ codes "open")) }
+{
+    if is_text(word, b"ok") {
+        return Some(Shown::Reply(Reply::Done));
+    }
+    if is_text(word, b"nosuch") {
+        return Some(Shown::Reply(Reply::NoSuch));
+    }
+    if is_text(word, b"outrange") {
+        return Some(Shown::Reply(Reply::OutRange));
+    }
+    if is_text(word, b"toolarge") {
+        return Some(Shown::Reply(Reply::TooLarge));
+    }
+    if is_text(word, b"open") {
+        return Some(Shown::Unfinished);
+    }
+    None
+}
+
 impl Field for Shown {
     ghost IsValue = { IsShown };
 
@@ -50,21 +74,9 @@ impl Field for Shown {
         if let Some(length) = behind(b"length ", text) {
             return Ok(Shown::Reply(Reply::Length(u64::read(alloc, length)?)));
         }
-        if is_text(text, b"ok") {
-            return Ok(Shown::Reply(Reply::Done));
+        match shown_named(text) {
+            Some(shown) => Ok(shown),
+            None => Err(Unread::Syntax),
         }
-        if is_text(text, b"nosuch") {
-            return Ok(Shown::Reply(Reply::NoSuch));
-        }
-        if is_text(text, b"outrange") {
-            return Ok(Shown::Reply(Reply::OutRange));
-        }
-        if is_text(text, b"toolarge") {
-            return Ok(Shown::Reply(Reply::TooLarge));
-        }
-        if is_text(text, b"open") {
-            return Ok(Shown::Unfinished);
-        }
-        Err(Unread::Syntax)
     }
 }
