@@ -1,8 +1,7 @@
 //! The commands `run` and `trial`. That transcripts of runs are legal is tested below the program
 //! (`run_tests`).
-use crate::meeting::MeetingGate;
-use clay_par::ParCoder;
 use command_runs::Status;
+use command_runs::meeting::MeetingGate;
 use command_runs::runs::{Ran, fails, run_by};
 use command_runs::scripts::{PUT_THEN_GET, TRANSCRIPT};
 use command_runs::tables::answers;
@@ -54,7 +53,7 @@ end
 fn long_subchunks_are_stored_by_threads(rt: HostRuntime) -> Result<(), Fail> {
     let words = ["run", "4"];
     let gate = MeetingGate::counting();
-    let ran = run_by(&rt, &words, LONG_SUBCHUNKS, &[], &[], &gate, &ParCoder)?;
+    let ran = run_by(&rt, &words, LONG_SUBCHUNKS, &[], &[], &gate)?;
     assert!(rt; ran.is_so(Status::Done, ITS_TRANSCRIPT));
     Ok(())
 }
@@ -86,15 +85,7 @@ fn trial_with<R: Threads + Wait + Sync + AllocGlobal>(
     rt: &R,
     gate: &MeetingGate,
 ) -> Result<Ran, Fail> {
-    run_by(
-        rt,
-        &["trial", "7", "64", "4"],
-        b"",
-        &[0],
-        &[],
-        gate,
-        &ParCoder,
-    )
+    run_by(rt, &["trial", "7", "64", "4"], b"", &[0], &[], gate)
 }
 
 fn is_legal_with<R: Threads + Wait + Sync + AllocGlobal>(

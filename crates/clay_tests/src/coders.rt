@@ -1,6 +1,6 @@
 //! What the program and a world ask of their coder.
 use crate::drips::{NONE, run_in_drips};
-use clay_repair::PlainCoder;
+use clay_par::ParCoder;
 use command_runs::Status;
 use command_runs::scripts::PUT_THEN_GET;
 use script_text::read_script;
@@ -30,7 +30,7 @@ fn asked_by_the_program<R: Threads + Wait + Sync + AllocGlobal>(
     rt: &R,
     words: &[&str],
     script: &[u8],
-    coder: &Counting<PlainCoder>,
+    coder: &Counting<ParCoder>,
 ) -> Result<(), Fail> {
     let script = unfolded(rt.alloc(), script)?;
     if run_in_drips(rt, words, &script, NONE, coder)?.status != Status::Done {
@@ -43,7 +43,7 @@ fn encodes_of_the_program<R: Threads + Wait + Sync + AllocGlobal>(
     rt: &R,
     words: &[&str],
 ) -> Result<u64, Fail> {
-    let coder = Counting::new(PlainCoder);
+    let coder = Counting::new(ParCoder);
     asked_by_the_program(rt, words, PUT_THEN_GET, &coder)?;
     Ok(coder.encodes())
 }
@@ -58,7 +58,7 @@ fn the_program_asks_its_coder(rt: HostRuntime) -> Result<(), Fail> {
 
 #[test]
 fn the_program_asks_for_a_rebuild(rt: HostRuntime) -> Result<(), Fail> {
-    let coder = Counting::new(PlainCoder);
+    let coder = Counting::new(ParCoder);
     asked_by_the_program(&rt, &[], ONE_LOSS, &coder)?;
     assert!(rt; coder.rebuilds() == 1);
     assert!(rt; coder.recovers() == 0);
@@ -69,7 +69,7 @@ fn the_program_asks_for_a_rebuild(rt: HostRuntime) -> Result<(), Fail> {
 fn asked_by_a_world<R: Threads + Sync + AllocGlobal>(
     rt: &R,
     text: &[u8],
-    coder: &Counting<PlainCoder>,
+    coder: &Counting<ParCoder>,
 ) -> Result<(), Fail> {
     let alloc = rt.alloc();
     let Ok(script) = read_script(alloc, &unfolded(alloc, text)?) else {
@@ -81,7 +81,7 @@ fn asked_by_a_world<R: Threads + Sync + AllocGlobal>(
 
 #[test]
 fn a_world_asks_its_coder(rt: HostRuntime) -> Result<(), Fail> {
-    let coder = Counting::new(PlainCoder);
+    let coder = Counting::new(ParCoder);
     asked_by_a_world(&rt, PUT_THEN_GET, &coder)?;
     assert!(rt; coder.encodes() >= 1);
     Ok(())
@@ -89,7 +89,7 @@ fn a_world_asks_its_coder(rt: HostRuntime) -> Result<(), Fail> {
 
 #[test]
 fn a_world_asks_for_a_rebuild(rt: HostRuntime) -> Result<(), Fail> {
-    let coder = Counting::new(PlainCoder);
+    let coder = Counting::new(ParCoder);
     asked_by_a_world(&rt, ONE_LOSS, &coder)?;
     assert!(rt; coder.rebuilds() == 1);
     assert!(rt; coder.recovers() == 0);

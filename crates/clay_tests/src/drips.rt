@@ -1,8 +1,7 @@
-//! Calls of the program over a source that gives a byte a call and a sink that takes one, by a coder that counts. One function makes
-//! them all: the whole program is built anew for each kind of source, sink, gate and coder.
+//! Calls of the program over a source that gives a byte a call and a sink that takes one, by a coder that counts.
 use clay_bytes::{DripSink, DripSource};
-use clay_repair::PlainCoder;
-use command_runs::NoGate;
+use clay_par::ParCoder;
+use command_runs::meeting::MeetingGate;
 use command_runs::runs::{Ran, run_with};
 use std::alloc::Global;
 use std::sync::Wait;
@@ -37,9 +36,10 @@ fn ran<R: Threads + Wait + Sync + AllocGlobal>(
     words: &[&str],
     source: &mut DripSource,
     sink: &mut DripSink,
-    coder: &Counting<PlainCoder>,
+    coder: &Counting<ParCoder>,
 ) -> Result<Ran, Fail> {
-    let status = run_with(rt, words, source, sink, &NoGate, coder)?;
+    let gate = MeetingGate::counting();
+    let status = run_with(rt, words, source, sink, &gate, coder)?;
     let written = Vec::from_slice(rt.alloc(), sink.kept())?;
     Ok(Ran { status, written })
 }
@@ -50,7 +50,7 @@ pub fn run_in_drips<R: Threads + Wait + Sync + AllocGlobal>(
     words: &[&str],
     input: &[u8],
     failing: Failing<'_>,
-    coder: &Counting<PlainCoder>,
+    coder: &Counting<ParCoder>,
 ) -> Result<Ran, Fail> {
     let mut source = source_of(rt.alloc(), input, failing.reads)?;
     let mut sink = sink_of(rt.alloc(), failing.writes)?;

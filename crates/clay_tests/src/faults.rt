@@ -1,6 +1,6 @@
 //! Reads and writes that fail, each in turn.
 use crate::drips::{Failing, NONE, run_in_drips};
-use clay_repair::PlainCoder;
+use clay_par::ParCoder;
 use command_runs::Status;
 use command_runs::runs::fails;
 use command_runs::scripts::{PUT_THEN_GET, TRANSCRIPT};
@@ -34,7 +34,7 @@ fn play<R: Threads + Wait + Sync + AllocGlobal>(
     status: Status,
     written: &[u8],
 ) -> Result<(), Fail> {
-    let ran = run_in_drips(rt, &[], PUT_THEN_GET, failing, &Counting::new(PlainCoder))?;
+    let ran = run_in_drips(rt, &[], PUT_THEN_GET, failing, &Counting::new(ParCoder))?;
     if ran.status != status {
         return Err(Fail::from("another status"));
     }

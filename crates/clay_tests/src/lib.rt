@@ -17,8 +17,6 @@ mod faults;
 #[cfg(test)]
 mod generate;
 #[cfg(test)]
-mod meeting;
-#[cfg(test)]
 mod meetings;
 #[cfg(test)]
 mod piped;

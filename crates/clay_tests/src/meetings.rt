@@ -1,7 +1,6 @@
 //! The command `run` with its threads at two servers at once.
-use crate::meeting::MeetingGate;
-use clay_par::ParCoder;
 use command_runs::Status;
+use command_runs::meeting::MeetingGate;
 use command_runs::runs::run_by;
 use std::sync::Wait;
 use std::test::Fail;
@@ -22,7 +21,7 @@ end
 // Fails where the two clients aren't inside two locks at once: so it is in one thread, whatever was asked for.
 fn clients_meet<R: Threads + Wait + Sync + AllocGlobal>(rt: &R, workers: &str) -> Result<(), Fail> {
     let gate = MeetingGate::holding();
-    let ran = run_by(rt, &["run", workers], TWO_PUTS, &[], &[], &gate, &ParCoder)?;
+    let ran = run_by(rt, &["run", workers], TWO_PUTS, &[], &[], &gate)?;
     if ran.status != Status::Done || !gate.has_held_both() || gate.has_given_up() {
         return Err(Fail::new(format_args!("{workers} workers: none met")));
     }

@@ -2,8 +2,9 @@
 //! of inputs. It has no tests of its own, so that it is proved once.
 #![tactic(auto)]
 
+pub mod meeting;
 pub mod runs;
 pub mod scripts;
 pub mod tables;
 
-pub use clay_cli::{Gate, NoGate, Place, Status};
+pub use clay_cli::Status;

@@ -1,12 +1,14 @@
-//! One call of the program over a source and a sink in memory.
+//! One call of the program over a source and a sink in memory, by one kind of gate and of coder: the whole program is built anew for
+//! each.
+use crate::meeting::MeetingGate;
 use clay_bytes::{MemSink, MemSource, Sink, Source};
-use clay_cli::{Gate, NoGate, Status, clay_main};
-use clay_lanes::LaneCoder;
-use clay_model::Coder;
+use clay_cli::{Status, clay_main};
+use clay_par::ParCoder;
 use std::alloc::Global;
 use std::sync::Wait;
 use std::test::Fail;
 use std::thread::Threads;
+use text_tables::counting::Counting;
 
 // The bytes of an output that are kept, which are all of it in each test.
 const ROOM: usize = 4_194_304;
@@ -26,19 +28,13 @@ impl Ran {
 }
 
 /// Calls the program with these words, source, sink, gate and coder.
-pub fn run_with<
-    R: Threads + Wait + Sync + AllocGlobal,
-    S: Source,
-    K: Sink,
-    G: Gate + Sync,
-    C: Coder + Sync,
->(
+pub fn run_with<R: Threads + Wait + Sync + AllocGlobal, S: Source, K: Sink>(
     rt: &R,
     words: &[&str],
     source: &mut S,
     sink: &mut K,
-    gate: &G,
-    coder: &C,
+    gate: &MeetingGate,
+    coder: &Counting<ParCoder>,
 ) -> Result<Status, Fail> {
     let alloc = rt.alloc();
     let mut owned = Vec::new(alloc);
@@ -58,32 +54,30 @@ fn sink_of(alloc: Global, writes: &[u64]) -> Result<MemSink, Fail> {
     Ok(MemSink::new(Vec::with_capacity(alloc, ROOM)?, writes))
 }
 
-fn run_over<R: Threads + Wait + Sync + AllocGlobal, G: Gate + Sync, C: Coder + Sync>(
+fn run_over<R: Threads + Wait + Sync + AllocGlobal>(
     rt: &R,
     words: &[&str],
     source: &mut MemSource,
     sink: &mut MemSink,
-    gate: &G,
-    coder: &C,
+    gate: &MeetingGate,
 ) -> Result<Ran, Fail> {
-    let status = run_with(rt, words, source, sink, gate, coder)?;
+    let status = run_with(rt, words, source, sink, gate, &Counting::new(ParCoder))?;
     let written = Vec::from_slice(rt.alloc(), sink.kept())?;
     Ok(Ran { status, written })
 }
 
-/// Calls the program with this gate and this coder where the reads and the writes of these numbers fail.
-pub fn run_by<R: Threads + Wait + Sync + AllocGlobal, G: Gate + Sync, C: Coder + Sync>(
+/// Calls the program with this gate where the reads and the writes of these numbers fail.
+pub fn run_by<R: Threads + Wait + Sync + AllocGlobal>(
     rt: &R,
     words: &[&str],
     input: &[u8],
     reads: &[u64],
     writes: &[u64],
-    gate: &G,
-    coder: &C,
+    gate: &MeetingGate,
 ) -> Result<Ran, Fail> {
     let mut source = source_of(rt.alloc(), input, reads)?;
     let mut sink = sink_of(rt.alloc(), writes)?;
-    run_over(rt, words, &mut source, &mut sink, gate, coder)
+    run_over(rt, words, &mut source, &mut sink, gate)
 }
 
 /// Calls the program where the reads and the writes of these numbers fail.
@@ -94,7 +88,7 @@ pub fn run_failing<R: Threads + Wait + Sync + AllocGlobal>(
     reads: &[u64],
     writes: &[u64],
 ) -> Result<Ran, Fail> {
-    run_by(rt, words, input, reads, writes, &NoGate, &LaneCoder)
+    run_by(rt, words, input, reads, writes, &MeetingGate::counting())
 }
 
 /// Whether the call ends so where the reads and the writes of these numbers fail, with nothing written.

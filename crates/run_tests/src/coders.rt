@@ -1,7 +1,7 @@
 //! What a run asks of its coder, and what it shows where only one history is possible.
 use crate::gates::TestGate;
-use crate::runs::{WORKERS, transcript_of};
-use clay_repair::PlainCoder;
+use crate::runs::{WORKERS, transcript_by};
+use clay_par::ParCoder;
 use std::sync::Wait;
 use std::test::Fail;
 use std::thread::Threads;
@@ -34,8 +34,8 @@ end
 
 // Runs the script in so many threads, and fails where its transcript is another or its coder wasn't asked.
 fn run_alone<R: Threads + Wait + Sync + AllocGlobal>(rt: &R, workers: usize) -> Result<(), Fail> {
-    let coder = Counting::new(PlainCoder);
-    let transcript = transcript_of(rt, PUT_THEN_GET, workers, &coder, &TestGate::Nobody)?;
+    let coder = Counting::new(ParCoder);
+    let transcript = transcript_by(rt, PUT_THEN_GET, workers, &coder, &TestGate::Nobody)?;
     if coder.encodes() == 0 {
         return Err(Fail::from("no stripe was encoded"));
     }

@@ -7,6 +7,7 @@ use std::sync::Wait;
 use std::test::Fail;
 use std::thread::Threads;
 use store_run::run;
+use text_tables::counting::Counting;
 
 // As many scripts, and as many calls of each client.
 const SCRIPTS: u64 = 64;
@@ -20,7 +21,7 @@ fn run_is_legal<R: Threads + Wait + Sync + AllocGlobal>(rt: &R, start: u64) -> R
         alloc,
         generate(alloc, start, CALLS)?,
         4,
-        &ParCoder,
+        &Counting::new(ParCoder),
         &TestGate::Nobody,
     )?;
     expect_legal(alloc, &generate(alloc, start, CALLS)?, &transcript)

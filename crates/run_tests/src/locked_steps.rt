@@ -2,7 +2,6 @@
 //! place meanwhile.
 use crate::gates::TestGate;
 use crate::runs::transcript_of;
-use clay_par::ParCoder;
 use std::alloc::Global;
 use std::sync::Wait;
 use std::sync::atomic::{AtomicBool, AtomicU64, Ordering};
@@ -118,7 +117,7 @@ fn are_told_inside<R: Threads + Wait + Sync + AllocGlobal>(
 ) -> Result<(), Fail> {
     let gate = PlaceGate::new(actor, at_servers);
     let script = script_of_all(rt.alloc())?;
-    let _transcript = transcript_of(rt, &script, 2, &ParCoder, &TestGate::Places(&gate))?;
+    let _transcript = transcript_of(rt, &script, 2, &TestGate::Places(&gate))?;
     let watched = gate.watched.load(Ordering::SeqCst);
     if gate.have_met.load(Ordering::SeqCst) || watched < HELD {
         return Err(Fail::new(format_args!("{actor:?}, servers {at_servers}: {watched} steps")));

@@ -1,6 +1,6 @@
 //! Worked sessions.
 use crate::session_runs::{Failing, NOTHING, WORDS, run_with};
-use clay_repair::PlainCoder;
+use clay_par::ParCoder;
 use hex::FromHexError;
 use std::alloc::Global;
 use std::str;
@@ -32,7 +32,7 @@ fn ends_so<R: Threads + Sync + AllocGlobal>(
     status: &[u8],
     output: &[u8],
 ) -> Result<(), Fail> {
-    let ran = run_with(rt, WORDS, input, failing, &Counting::new(PlainCoder))?;
+    let ran = run_with(rt, WORDS, input, failing, &Counting::new(ParCoder))?;
     let wanted: u8 = str::from_utf8(status)?.parse()?;
     if ran.status.number() == wanted && ran.written.as_slice() == output {
         return Ok(());

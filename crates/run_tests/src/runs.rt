@@ -3,7 +3,6 @@ ghost use Rattle.std.specs.Prelude.{IfOk};
 ghost use Rattle.store_map.specs.Naming.{IsValid};
 
 use crate::gates::TestGate;
-use clay_model::Coder;
 use clay_par::ParCoder;
 use hist_check::{check, verdict_line};
 use script_text::read_script;
@@ -14,6 +13,7 @@ use std::test::Fail;
 use std::thread::Threads;
 use store_map::{Script, Transcript};
 use store_run::run;
+use text_tables::counting::Counting;
 
 /// In so many threads each script is run.
 pub const WORKERS: [usize; 4] = [1, 2, 4, 16];
@@ -31,12 +31,13 @@ pub fn script_of(alloc: Global, text: &[u8]) -> Result<Script, Fail>
     }
 }
 
-/// The transcript of a run of the script in so many threads.
-pub fn transcript_of<R: Threads + Wait + Sync + AllocGlobal, C: Coder + Sync>(
+/// The transcript of a run of the script in so many threads by this coder, which is of one kind, as the gate is: a whole run is built
+/// anew for each.
+pub fn transcript_by<R: Threads + Wait + Sync + AllocGlobal>(
     rt: &R,
     text: &[u8],
     workers: usize,
-    coder: &C,
+    coder: &Counting<ParCoder>,
     gate: &TestGate<'_>,
 ) -> Result<Transcript, Fail> {
     if workers == 0 {
@@ -44,6 +45,16 @@ pub fn transcript_of<R: Threads + Wait + Sync + AllocGlobal, C: Coder + Sync>(
     }
     let script = script_of(rt.alloc(), text)?;
     Ok(run(rt, rt.alloc(), script, workers, coder, gate)?)
+}
+
+/// The transcript of a run of the script in so many threads.
+pub fn transcript_of<R: Threads + Wait + Sync + AllocGlobal>(
+    rt: &R,
+    text: &[u8],
+    workers: usize,
+    gate: &TestGate<'_>,
+) -> Result<Transcript, Fail> {
+    transcript_by(rt, text, workers, &Counting::new(ParCoder), gate)
 }
 
 // What the checker prints of a legal transcript.
@@ -80,7 +91,7 @@ fn rounds_are_legal<R: Threads + Wait + Sync + AllocGlobal>(
 ) -> Result<(), Fail> {
     let script = script_of(rt.alloc(), text)?;
     for _round in 0..ROUNDS {
-        let transcript = transcript_of(rt, text, workers, &ParCoder, &TestGate::Nobody)?;
+        let transcript = transcript_of(rt, text, workers, &TestGate::Nobody)?;
         expect_legal(rt.alloc(), &script, &transcript)?;
     }
     Ok(())

@@ -1,6 +1,6 @@
 //! What a session asks of its coder.
 use crate::session_runs::{NOTHING, WORDS, run_with};
-use clay_repair::PlainCoder;
+use clay_par::ParCoder;
 use frame_session::SessionStatus;
 use std::test::Fail;
 use std::thread::Threads;
@@ -21,8 +21,8 @@ const HEAL: &[u8] = b"\
 fn asked_by<R: Threads + Sync + AllocGlobal>(
     rt: &R,
     input: &[u8],
-) -> Result<Counting<PlainCoder>, Fail> {
-    let coder = Counting::new(PlainCoder);
+) -> Result<Counting<ParCoder>, Fail> {
+    let coder = Counting::new(ParCoder);
     let ran = run_with(rt, WORDS, input, NOTHING, &coder)?;
     if ran.status != SessionStatus::Done {
         return Err(Fail::from("not done"));

@@ -1,6 +1,6 @@
 //! One session over a source and a sink in memory that give and take one byte a call.
 use clay_bytes::{DripSink, DripSource};
-use clay_repair::PlainCoder;
+use clay_par::ParCoder;
 use frame_session::{SessionStatus, frame_main};
 use std::alloc::{AllocError, Global};
 use std::test::Fail;
@@ -62,7 +62,7 @@ pub fn run_with<R: Threads + Sync + AllocGlobal>(
     words: &[u8],
     input: &[u8],
     failing: Failing,
-    coder: &Counting<PlainCoder>,
+    coder: &Counting<ParCoder>,
 ) -> Result<Ran, Fail> {
     let alloc = rt.alloc();
     let words = words_of(alloc, words)?;

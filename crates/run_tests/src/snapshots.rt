@@ -3,7 +3,7 @@ ghost use Rattle.std.specs.Prelude.{◌<◌, ◌≤◌};
 
 use crate::rows::rows_hold;
 use crate::session_runs::{NOTHING, WORDS, run_with};
-use clay_repair::PlainCoder;
+use clay_par::ParCoder;
 use frame_session::SessionStatus;
 use std::alloc::{AllocError, Global};
 use std::test::Fail;
@@ -41,7 +41,7 @@ fn is_written<R: Threads + Sync + AllocGlobal>(
     input: &[u8],
     output: &[u8],
 ) -> Result<bool, Fail> {
-    let ran = run_with(rt, WORDS, input, NOTHING, &Counting::new(PlainCoder))?;
+    let ran = run_with(rt, WORDS, input, NOTHING, &Counting::new(ParCoder))?;
     Ok(ran.status == SessionStatus::Done && ran.written.as_slice() == output)
 }
 

@@ -1,7 +1,6 @@
 //! Whether the sweeper sweeps while clients have steps.
 use crate::gates::TestGate;
 use crate::runs::transcript_of;
-use clay_par::ParCoder;
 use std::alloc::Global;
 use std::sync::Wait;
 use std::sync::atomic::{AtomicBool, AtomicU64, Ordering};
@@ -66,7 +65,7 @@ fn sweeps_beside<R: Threads + Wait + Sync + AllocGlobal>(
     workers: usize,
 ) -> Result<(), Fail> {
     let gate = StepsGate::new();
-    let _transcript = transcript_of(rt, script, workers, &ParCoder, &TestGate::Steps(&gate))?;
+    let _transcript = transcript_of(rt, script, workers, &TestGate::Steps(&gate))?;
     let firsts = gate.firsts.load(Ordering::SeqCst);
     let sweeps = gate.sweeps.load(Ordering::SeqCst);
     if firsts < 8 || sweeps < firsts {
@@ -140,7 +139,7 @@ end
 fn sweeps_on<R: Threads + Wait + Sync + AllocGlobal>(rt: &R, workers: usize) -> Result<(), Fail> {
     let gate = HoldingGate::new();
     let held = TestGate::Holding(&gate);
-    let _transcript = transcript_of(rt, STAT_AND_PUT, workers, &ParCoder, &held)?;
+    let _transcript = transcript_of(rt, STAT_AND_PUT, workers, &held)?;
     if gate.gave_up.load(Ordering::SeqCst) {
         return Err(Fail::new(format_args!("{workers} workers: the sweeper ended before client 1")));
     }

@@ -1,6 +1,6 @@
 //! Words of sessions, and words that are no session's.
 use crate::session_runs::{NOTHING, run_with};
-use clay_repair::PlainCoder;
+use clay_par::ParCoder;
 use frame_session::SessionStatus;
 use std::test::Fail;
 use std::thread::Threads;
@@ -13,7 +13,7 @@ fn ends_as<R: Threads + Sync + AllocGlobal>(
     words: &[u8],
     status: SessionStatus,
 ) -> Result<(), Fail> {
-    let ran = run_with(rt, words, b"\0", NOTHING, &Counting::new(PlainCoder))?;
+    let ran = run_with(rt, words, b"\0", NOTHING, &Counting::new(ParCoder))?;
     if ran.status == status && ran.written.is_empty() {
         return Ok(());
     }

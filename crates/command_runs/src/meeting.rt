@@ -1,6 +1,6 @@
 //! A gate that counts steps, and may hold two clients inside the locks of two servers until both are there. It is one type, since the
 //! whole program is built anew for each kind of gate.
-use command_runs::{Gate, Place};
+use clay_cli::{Gate, Place};
 use std::sync::atomic::{AtomicBool, AtomicU64, Ordering};
 use std::thread;
 use store_map::Actor;
