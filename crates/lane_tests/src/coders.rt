@@ -3,15 +3,13 @@ ghost use Rattle.std.specs.Prelude.{◌≡◌, ◌≤◌, length, IfOk, IfSome, 
 ghost use Rattle.clay_grid.specs.Shape.{chunk_count, chunk_length};
 ghost use Rattle.clay_model.specs.Left.{AreLong};
 
-use crate::encoding::{CODES, WIDTHS, expect_bytes, expect_chunks, mixed_bytes};
+use crate::encoding::{CODES, WIDTHS, expect_bytes, expect_chunks, word_of};
 use clay_grid::Geometry;
-use clay_lanes::{LaneCoder, decode, decode_checked, encode, missing, missing_into};
-use clay_model::{CheckedFault, Coder, DecodeFault};
-use clay_repair::PlainCoder;
+use clay_lanes::{decode, decode_checked, missing, missing_into};
+use clay_model::{CheckedFault, DecodeFault};
 use std::alloc::{AllocError, Global};
 use std::process::Abort;
 use std::test::Fail;
-use std::thread::Threads;
 
 fn part_of(alloc: Global, chunk: &[u8], gone: bool) -> Result<Option<Vec<u8>>, AllocError>
     ensures { IfOk result (λ o. IfSome o (λ v. length v.items ≡ length chunk.now)) }
@@ -99,8 +97,8 @@ fn check_refused(rt: &impl Abort, alloc: Global, g: Geometry, have: &[Option<Vec
 }
 
 // The chunks of the codeword come back.
-fn check_recovered<R: Abort + Threads + Sync>(
-    rt: &R,
+fn check_recovered(
+    rt: &impl Abort,
     alloc: Global,
     g: Geometry,
     have: &[Option<Vec<u8>>],
@@ -110,7 +108,6 @@ fn check_recovered<R: Abort + Threads + Sync>(
     requires lengths { AreLong (chunk_length g) have.now }
     requires few { count_by is_none have.now ≤ g.parity_count }
 {
-    expect_chunks(rt, &LaneCoder.recover(rt, alloc, g, have)?, word);
     expect_chunks(rt, &decode(alloc, g, have)?, word);
     expect_chunks(rt, &decode_checked(alloc, g, have)?, word);
     Ok(())
@@ -149,8 +146,8 @@ fn check_missing(
 }
 
 // Recovers the chunks of the bits of `gone`.
-fn check_loss<R: Abort + Threads + Sync>(
-    rt: &R,
+fn check_loss(
+    rt: &impl Abort,
     alloc: Global,
     g: Geometry,
     word: &[Vec<u8>],
@@ -166,27 +163,9 @@ fn check_loss<R: Abort + Threads + Sync>(
     check_missing(rt, alloc, g, &have, &lost_of(rt, alloc, word, gone)?)
 }
 
-// The chunks of some stripe, of which both coders say the same.
-pub fn word_of<R: Abort + Threads + Sync>(
-    rt: &R,
-    alloc: Global,
-    g: Geometry,
-) -> Result<Vec<Vec<u8>>, Fail> {
-    let stripe = mixed_bytes(alloc, g.stripe_len())?;
-    assert!(rt; stripe.len() == g.stripe_len() as usize);
-    let word = LaneCoder.encode(rt, alloc, g, &stripe)?;
-    expect_chunks(rt, &PlainCoder.encode(rt, alloc, g, &stripe)?, &word);
-    Ok(word)
-}
-
 // Loses no chunk, the last data chunk, the first parity chunk, as many as there are parity chunks (the
 // first data chunks, the first parity chunks, some of each), and one too many.
-fn check_word<R: Abort + Threads + Sync>(
-    rt: &R,
-    alloc: Global,
-    g: Geometry,
-    word: &[Vec<u8>],
-) -> Result<(), Fail> {
+fn check_word(rt: &impl Abort, alloc: Global, g: Geometry, word: &[Vec<u8>]) -> Result<(), Fail> {
     assert!(rt; g.n() < 32);
     let some = (1u32 << g.m()) - 1;
     check_loss(rt, alloc, g, word, 0)?;
@@ -198,7 +177,7 @@ fn check_word<R: Abort + Threads + Sync>(
     check_loss(rt, alloc, g, word, some | 1 << (g.n() - 1))
 }
 
-fn check_losses<R: Abort + Threads + Sync>(rt: &R, alloc: Global, g: Geometry) -> Result<(), Fail> {
+fn check_losses(rt: &impl Abort, alloc: Global, g: Geometry) -> Result<(), Fail> {
     check_word(rt, alloc, g, &word_of(rt, alloc, g)?)
 }
 
@@ -219,9 +198,7 @@ fn changed_word(
     g: Geometry,
     changed: usize,
 ) -> Result<Vec<Vec<u8>>, Fail> {
-    let stripe = mixed_bytes(alloc, g.stripe_len())?;
-    assert!(rt; stripe.len() == g.stripe_len() as usize);
-    let mut word = encode(alloc, g, &stripe)?;
+    let mut word = word_of(rt, alloc, g)?;
     assert!(rt; changed < word.len());
     let chunk = &mut word[changed];
     assert!(rt; !chunk.is_empty());

@@ -19,6 +19,13 @@ pub fn mixed_bytes(alloc: Global, count: u32) -> Result<Vec<u8>, AllocError> {
     Ok(bytes)
 }
 
+/// The chunks of some stripe, by the fast coder.
+pub fn word_of(rt: &impl Abort, alloc: Global, g: Geometry) -> Result<Vec<Vec<u8>>, AllocError> {
+    let stripe = mixed_bytes(alloc, g.stripe_len())?;
+    assert!(rt; stripe.len() == g.stripe_len() as usize);
+    encode(alloc, g, &stripe)
+}
+
 /// One function compares, and tells both sides where they differ: each `assert_eq` is proved with all that it prints.
 pub fn expect_bytes(rt: &impl Abort, found: &[u8], wanted: &[u8]) {
     assert_eq!(rt; found, wanted);

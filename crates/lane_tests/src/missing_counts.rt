@@ -16,8 +16,8 @@ const COUNTS: [[u32; 7]; 7] = [
     [8, 4, 0b1001_0010_0001, 0, 56, 57, 37],
 ];
 
-// Marks for so many chunks, of which those with a bit are missing.
-fn present(alloc: Global, count: u32, missing: u32) -> Result<Vec<bool>, Fail> {
+/// Marks for so many chunks, of which those with a bit are missing.
+pub fn present(alloc: Global, count: u32, missing: u32) -> Result<Vec<bool>, Fail> {
     let mut marks = Vec::with_capacity(alloc, count as usize)?;
     for bit in 0..count.min(32) {
         marks.push(missing >> bit & 1 == 0)?;

@@ -1,11 +1,11 @@
 //! Runs that are read while chunks are missing, beside the codewords of the fast coder.
-use crate::encoding::mixed_bytes;
+use crate::encoding::word_of;
 use crate::lost_reads::{bytes_of, layers};
+use crate::missing_counts::present;
 use clay_grid::Geometry;
-use clay_parity::encode;
 use lost_layers::{LostRun, MissingFault, missing_pieces};
 use lost_read::{MissingReadFault, read_missing};
-use std::alloc::{AllocError, Global};
+use std::alloc::Global;
 use std::process::Abort;
 use std::test::Fail;
 
@@ -21,22 +21,6 @@ const READS: [[u32; 7]; 9] = [
     [8, 4, 3, 0b1001_0010_0001, 0, 56, 57],
     [5, 4, 33, 0b0_1011_0000, 7, 13, 17],
 ];
-
-// The chunks of some stripe, by the fast coder.
-fn word_of(rt: &impl Abort, alloc: Global, g: Geometry) -> Result<Vec<Vec<u8>>, AllocError> {
-    let stripe = mixed_bytes(alloc, g.stripe_len())?;
-    assert!(rt; stripe.len() == g.stripe_len() as usize);
-    encode(alloc, g, &stripe)
-}
-
-// Marks for so many chunks, of which those with a bit are missing.
-fn present(alloc: Global, count: u32, missing: u32) -> Result<Vec<bool>, AllocError> {
-    let mut marks = Vec::with_capacity(alloc, count as usize)?;
-    for bit in 0..count.min(32) {
-        marks.push(missing >> bit & 1 == 0)?;
-    }
-    Ok(marks)
-}
 
 // Reads a run over bytes that were there before.
 fn check_run(

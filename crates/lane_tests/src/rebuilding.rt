@@ -3,8 +3,7 @@ ghost use Rattle.std.specs.Prelude.{◌≡◌, ◌<◌, length, IfOk, IfSome, is
 ghost use Rattle.clay_grid.specs.Shape.{chunk_count};
 ghost use Rattle.clay_model.specs.RepairParts.{AreParts};
 
-use crate::coders::word_of;
-use crate::encoding::{CODES, WIDTHS, expect_bytes};
+use crate::encoding::{CODES, WIDTHS, expect_bytes, word_of};
 use clay_grid::Geometry;
 use clay_lanes::LaneCoder;
 use clay_model::Coder;
