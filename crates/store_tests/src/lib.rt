@@ -1,9 +1,11 @@
 //! Tests of the store's parts: sealed versions and the chunk server over them; puts at the directory of which one may want memory;
-//! strays. All of it is tests, so without them the crate is empty, and it is proved once.
+//! strays; the points of changes. All of it is tests, so without them the crate is empty, and it is proved once.
 #![tactic(auto)]
 
 #[cfg(test)]
 mod memory;
+#[cfg(test)]
+mod points;
 #[cfg(test)]
 mod sealing;
 #[cfg(test)]
