@@ -9,6 +9,8 @@ use Rattle.client_patch.specs.Patches.{PatchOf}
 use Rattle.client_patch.specs.Known.{KnowsOld}
 use Rattle.call_machine.specs.Kinds.{Asked, Machine, client_machine, machine_of, IfReads, IfPatches, IfDraws, IfRebuilds}
 use Rattle.call_machine.specs.Calls.{MachineOf, patch_of, KnowsFor, KnowsOldOf}
+use Rattle.call_machine.specs.Ends.{IsEndOf}
+use Rattle.call_steps.specs.declared.outcome.CallOutcome.{CallOutcome}
 use Rattle.call_machine.specs.Inside.{asked_by, call_by, call_in, IsOfKind}
 use Rattle.call_machine.specs.declared.call_machine.Kind.{Kind}
 use Rattle.call_machine.specs.declared.call_machine.Kind.TheVariants as kind
@@ -61,6 +63,13 @@ pub of_rebuilds : (a : Inside) (c : MachineOf) (m : Machine) (P : Type 0) → ca
 of_rebuilds a c m P view is holds =
     subst (λ (v : MachineOf). IfRebuilds (machine_of v.asked) P) view
     (subst (λ (asked : Asked). IfRebuilds (machine_of asked) P) (sym (asked_is a.kind (asked_by a.task))) (subst (λ (m : Machine). IfRebuilds m P) (sym is) holds))
+
+-- how a call of one machine ends is how one of what is asked does
+pub ends_as : (a : Inside) (c : MachineOf) (m : Machine) (end : CallOutcome) → call_in a ≡ c → machine_of (asked_by a.task) ≡ m → IsEndOf m end
+    → IsEndOf (machine_of c.asked) end
+ends_as a c m end view is holds =
+    subst (λ (v : MachineOf). IsEndOf (machine_of v.asked) end) view
+    (subst (λ (asked : Asked). IsEndOf (machine_of asked) end) (sym (asked_is a.kind (asked_by a.task))) (subst (λ (m : Machine). IsEndOf m end) (sym is) holds))
 
 -- what a machine of reads owes holds of all
 pub if_reads : {P : Type 0} (m : Machine) → P → IfReads m P

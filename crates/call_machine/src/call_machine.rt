@@ -18,7 +18,7 @@ ghost use Rattle.call_steps.specs.Callers.{IsOfScript};
 ghost use Rattle.client_patch.specs.Padded.{ArePadded};
 ghost use Rattle.call_machine.specs.Kinds.{Asked, client_machine, machine_of, IfReads, IfDraws, IfPuts, IfPatches, IfRebuilds, UnlessPatches};
 ghost use Rattle.call_machine.specs.Calls.{first_call, drawn_by, owed_by, KnowsOldOf};
-ghost use Rattle.call_machine.specs.Ends.{IfBytesServed};
+ghost use Rattle.call_machine.specs.Ends.{IfBytesServed, IsEndOf};
 
 use call_steps::{Act, CallOutcome, DirectoryAnswer, Need, ServerAnswer};
 use chunk_server::Server;
@@ -260,6 +260,7 @@ impl<'a> CallMachine<'a> {
     pub fn finish(self) -> (Seat, CallOutcome, Option<Takes>)
         requires { need_of self.call ≡ Need.Finished }
         ensures seat { ActorToken.Seated result.0 ≡ self.entry.call.token }
+        ensures kind { IsEndOf (machine_of self.entry.asked) result.1 }
         ensures outcome { act_of self.entry.call ≡ CoreAct.Finish (call_outcome_of result.1) }
         ensures state { UnlessPatches (machine_of self.entry.asked) (self.entry.call.state.at ≡ State.Finished (call_outcome_of result.1)) }
         ensures served { IfReads (machine_of self.entry.asked) (IfBytesServed result.1 (λ bytes. bytes.items ≡ self.entry.owed)) }
