@@ -4,12 +4,12 @@ use Rattle.clay_grid.specs.Shape.{Shape, node_count, layer_count}
 use Rattle.clay_model.specs.Sums.{weighted_sum, present_value}
 use Rattle.clay_model.specs.Points.{byte_of, HaveSums}
 use borrow.Rule.Slice.PartMut.{put_mid}
-use Rattle.clay_decode.specs.declared.plan.Plan.{Plan}
+use Rattle.clay_decode.specs.declared.plan.PlainDecodePlan.{PlainDecodePlan}
 use Rattle.clay_decode.specs.Plan.{IsPlan}
 use Rattle.code_laws.specs.Solved.{HoldsPresent, HoldsLayer}
 use Rattle.code_laws.proofs.Layer.{layer_written}
 
-pub layer_written_at : (g : Shape) (have : List (Option (Vec ℕ Global))) (plan : Plan) → IsPlan g have plan
+pub layer_written_at : (g : Shape) (have : List (Option (Vec ℕ Global))) (plan : PlainDecodePlan) → IsPlan g have plan
     → (n at k : ℕ) (layer sums solved ys : List ℕ) → n < layer_count g → at ≡ n * (length plan.points.items * g.width) → k ≡ length plan.points.items * g.width
     → length solved ≡ layer_count g * (length plan.points.items * g.width) → length ys ≡ length plan.points.items * g.width
     → HoldsPresent g have plan.erased.items n (node_count g) layer

@@ -7,10 +7,10 @@ use Rattle.clay_grid.specs.Score.{IsByScore}
 use Rattle.clay_model.specs.Erased.{erased_below}
 use Rattle.clay_model.specs.Left.{AreLeft}
 use Rattle.code_laws.specs.Solved.{is_erased, HoldsLayer, HoldsLower}
-use Rattle.clay_decode.specs.declared.plan.Plan.{Plan}
+use Rattle.clay_decode.specs.declared.plan.PlainDecodePlan.{PlainDecodePlan}
 
 -- the erased nodes, their interpolation, the order of the layers, and a subchunk of zeros, for chunks of which few enough are missing
-pub record IsPlan (g : Shape) (have : List (Option (Vec ℕ Global))) (plan : Plan) : Type 0 where
+pub record IsPlan (g : Shape) (have : List (Option (Vec ℕ Global))) (plan : PlainDecodePlan) : Type 0 where
   pub geometry : IsGeometry g
   pub left : AreLeft g have
   pub few : length plan.points.items ≤ g.parity_count
@@ -22,14 +22,14 @@ pub record IsPlan (g : Shape) (have : List (Option (Vec ℕ Global))) (plan : Pl
   pub empty : plan.zeros.items ≡ replicate g.width 0
 
 -- a piece for each erased node in each layer
-abbrev pub HasPieces : Shape → Plan → List ℕ → Type 0
+abbrev pub HasPieces : Shape → PlainDecodePlan → List ℕ → Type 0
 HasPieces g plan solved = length solved ≡ layer_count g * (length plan.points.items * g.width)
 
 -- each layer is solved
-pub record AreSolved (g : Shape) (have : List (Option (Vec ℕ Global))) (plan : Plan) (solved : List ℕ) : Type 0 where
+pub record AreSolved (g : Shape) (have : List (Option (Vec ℕ Global))) (plan : PlainDecodePlan) (solved : List ℕ) : Type 0 where
   pub len : length solved ≡ layer_count g * (length plan.points.items * g.width)
   pub each : (n : ℕ) → n < layer_count g → HoldsLayer g have plan.points.items n solved
 
 -- the layers that layer n waits for are solved
-abbrev pub AreLowerSolved : Shape → List (Option (Vec ℕ Global)) → Plan → ℕ → List ℕ → Type 0
+abbrev pub AreLowerSolved : Shape → List (Option (Vec ℕ Global)) → PlainDecodePlan → ℕ → List ℕ → Type 0
 AreLowerSolved g have plan n solved = HoldsLower g have plan.erased.items plan.points.items n solved

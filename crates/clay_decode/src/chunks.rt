@@ -8,7 +8,7 @@ ghost use Rattle.code_laws.specs.Solved.{IsCoupled, HoldsSubchunks};
 ghost use Rattle.clay_decode.specs.Plan.{IsPlan, AreSolved};
 
 use crate::layers::{piece, solved_piece, solved_values};
-use crate::plan::{Plan, make_plan};
+use crate::plan::{PlainDecodePlan, make_plan};
 use clay_encode::zeros;
 use clay_grid::Geometry;
 use clay_model::{DecodeFault, couple, partner_of, uncouple};
@@ -18,7 +18,7 @@ use std::alloc::{AllocError, Global};
 fn couple_piece(
     g: Geometry,
     have: &[Option<Vec<u8>>],
-    plan: &Plan,
+    plan: &PlainDecodePlan,
     solved: &[u8],
     node: u32,
     z: u32,
@@ -52,7 +52,7 @@ fn couple_piece(
 fn couple_chunk(
     g: Geometry,
     have: &[Option<Vec<u8>>],
-    plan: &Plan,
+    plan: &PlainDecodePlan,
     solved: &[u8],
     node: u32,
     chunk: &mut [u8],
@@ -76,7 +76,7 @@ fn missing_chunk(
     alloc: Global,
     g: Geometry,
     have: &[Option<Vec<u8>>],
-    plan: &Plan,
+    plan: &PlainDecodePlan,
     solved: &[u8],
     c: u32,
 ) -> Result<Vec<u8>, AllocError>
@@ -98,7 +98,7 @@ fn chunk(
     alloc: Global,
     g: Geometry,
     have: &[Option<Vec<u8>>],
-    plan: &Plan,
+    plan: &PlainDecodePlan,
     solved: &[u8],
     c: u32,
 ) -> Result<Vec<u8>, AllocError>
@@ -120,7 +120,7 @@ fn all_chunks(
     alloc: Global,
     g: Geometry,
     have: &[Option<Vec<u8>>],
-    plan: &Plan,
+    plan: &PlainDecodePlan,
     solved: &[u8],
 ) -> Result<Vec<Vec<u8>>, AllocError>
     requires plan { IsPlan g have.now plan.now }

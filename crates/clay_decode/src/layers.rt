@@ -5,7 +5,7 @@ ghost use Rattle.clay_grid.specs.Layers.{layer_of};
 ghost use Rattle.code_laws.specs.Solved.{IsCoupled, IsUncoupled, HoldsPresent, HoldsLayer};
 ghost use Rattle.clay_decode.specs.Plan.{IsPlan, HasPieces, AreSolved, AreLowerSolved};
 
-use crate::plan::Plan;
+use crate::plan::PlainDecodePlan;
 use clay_encode::zeros;
 use clay_grid::Geometry;
 use clay_model::{partner_of, uncouple, uncouple_from};
@@ -16,7 +16,7 @@ use std::alloc::{AllocError, Global};
 pub fn piece<'a>(
     g: Geometry,
     have: &'a [Option<Vec<u8>>],
-    plan: &'a Plan,
+    plan: &'a PlainDecodePlan,
     node: u32,
     z: u32,
 ) -> &'a [u8]
@@ -56,7 +56,7 @@ fn place_of(points: &[u8], node: u32) -> usize
 pub fn solved_piece<'a>(
     g: Geometry,
     have: &[Option<Vec<u8>>],
-    plan: &Plan,
+    plan: &PlainDecodePlan,
     solved: &'a [u8],
     node: u32,
     z: u32,
@@ -79,7 +79,7 @@ pub fn solved_piece<'a>(
 fn uncouple_node(
     g: Geometry,
     have: &[Option<Vec<u8>>],
-    plan: &Plan,
+    plan: &PlainDecodePlan,
     solved: &[u8],
     node: u32,
     z: u32,
@@ -114,7 +114,7 @@ fn uncouple_node(
 fn uncouple_layer(
     g: Geometry,
     have: &[Option<Vec<u8>>],
-    plan: &Plan,
+    plan: &PlainDecodePlan,
     solved: &[u8],
     z: u32,
     layer: &mut [u8],
@@ -139,7 +139,7 @@ fn uncouple_layer(
 fn solve_layers(
     g: Geometry,
     have: &[Option<Vec<u8>>],
-    plan: &Plan,
+    plan: &PlainDecodePlan,
     layer: &mut [u8],
     sums: &mut [u8],
     solved: &mut [u8],
@@ -166,7 +166,7 @@ pub fn solved_values(
     alloc: Global,
     g: Geometry,
     have: &[Option<Vec<u8>>],
-    plan: &Plan,
+    plan: &PlainDecodePlan,
 ) -> Result<Vec<u8>, AllocError>
     requires plan { IsPlan g have.now plan.now }
     ensures { IfOk result (λ v. AreSolved g have.now plan.now v.items) }

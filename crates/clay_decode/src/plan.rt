@@ -12,7 +12,7 @@ use std::alloc::{AllocError, Global};
 
 /// The erased nodes, which are those of the missing chunks, and the order of the layers.
 #[derive(Drop)]
-pub struct Plan {
+pub struct PlainDecodePlan {
     /// For each node, whether it is erased.
     pub erased: Vec<bool>,
     /// The erased nodes, rising.
@@ -70,7 +70,11 @@ fn erased_points(alloc: Global, erased: &[bool]) -> Result<Vec<u8>, AllocError>
 }
 
 /// The plan for chunks of which no more are missing than there are parity chunks.
-pub fn make_plan(alloc: Global, g: Geometry, have: &[Option<Vec<u8>>]) -> Result<Plan, AllocError>
+pub fn make_plan(
+    alloc: Global,
+    g: Geometry,
+    have: &[Option<Vec<u8>>],
+) -> Result<PlainDecodePlan, AllocError>
     requires { AreLeft g have.now }
     ensures { IfOk result (IsPlan g have.now) }
 {
@@ -79,7 +83,7 @@ pub fn make_plan(alloc: Global, g: Geometry, have: &[Option<Vec<u8>>]) -> Result
     let points = erased_points(alloc, &erased)?;
     let solver = Solver::new(alloc, &points)?;
     let layers = g.layers_by_score(alloc, &erased)?;
-    Ok(Plan {
+    Ok(PlainDecodePlan {
         erased,
         points,
         solver,

@@ -4,10 +4,10 @@ use Rattle.std.specs.List.{range_with_len}
 use Rattle.clay_grid.specs.Shape.{Shape, chunk_count, row_count, node_count, node_of_chunk}
 use Rattle.clay_grid.specs.Limits.{IsGeometry}
 use Rattle.clay_grid.specs.Repair.{repair_layers_of}
-use Rattle.clay_repair.specs.declared.plan.Plan.{Plan}
+use Rattle.clay_repair.specs.declared.plan.PlainRepairPlan.{PlainRepairPlan}
 
 -- the lost node's place, the nodes of its column, the layers that are read, and a subchunk of zeros
-pub record IsPlan (g : Shape) (plan : Plan) : Type 0 where
+pub record IsPlan (g : Shape) (plan : PlainRepairPlan) : Type 0 where
   pub geometry : IsGeometry g
   pub chunk : plan.lost < chunk_count g
   pub row : plan.row ≡ node_of_chunk g plan.lost % row_count g

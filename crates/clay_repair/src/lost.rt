@@ -5,7 +5,7 @@ ghost use Rattle.clay_model.specs.RepairParts.{AreParts, IsRebuilt};
 ghost use Rattle.code_laws.specs.Rebuilt.{IsReadFor, IsCoupled, IsUncoupled, HoldsOthers, HoldsColumn, HoldsSubchunk, HoldsRow, with_digit};
 ghost use Rattle.clay_repair.specs.Plan.{IsPlan};
 
-use crate::plan::{Plan, make_plan, place_of};
+use crate::plan::{PlainRepairPlan, make_plan, place_of};
 use clay_encode::zeros;
 use clay_grid::Geometry;
 use clay_model::{cross, partner_of, uncouple};
@@ -16,7 +16,7 @@ use std::alloc::{AllocError, Global};
 fn piece<'a>(
     g: Geometry,
     parts: &'a [Option<Vec<u8>>],
-    plan: &'a Plan,
+    plan: &'a PlainRepairPlan,
     node: u32,
     z: u32,
 ) -> &'a [u8]
@@ -43,7 +43,7 @@ fn piece<'a>(
 fn uncouple_node(
     g: Geometry,
     parts: &[Option<Vec<u8>>],
-    plan: &Plan,
+    plan: &PlainRepairPlan,
     node: u32,
     z: u32,
     out: &mut [u8],
@@ -66,7 +66,13 @@ fn uncouple_node(
 }
 
 // Writes the uncoupled values of the nodes outside the lost node's column.
-fn uncouple_layer(g: Geometry, parts: &[Option<Vec<u8>>], plan: &Plan, z: u32, layer: &mut [u8])
+fn uncouple_layer(
+    g: Geometry,
+    parts: &[Option<Vec<u8>>],
+    plan: &PlainRepairPlan,
+    z: u32,
+    layer: &mut [u8],
+)
     requires plan { IsPlan g plan.now }
     requires parts { AreParts g plan.now.lost parts.now }
     requires read { IsReadFor g plan.now.lost z }
@@ -86,7 +92,7 @@ fn uncouple_layer(g: Geometry, parts: &[Option<Vec<u8>>], plan: &Plan, z: u32, l
 fn solve_column(
     g: Geometry,
     parts: &[Option<Vec<u8>>],
-    plan: &Plan,
+    plan: &PlainRepairPlan,
     z: u32,
     layer: &mut [u8],
     sums: &mut [u8],
@@ -110,7 +116,7 @@ fn solve_column(
 fn write_subchunk(
     g: Geometry,
     parts: &[Option<Vec<u8>>],
-    plan: &Plan,
+    plan: &PlainRepairPlan,
     z: u32,
     x: u32,
     own: &[u8],
@@ -137,7 +143,7 @@ fn write_subchunk(
 fn write_row(
     g: Geometry,
     parts: &[Option<Vec<u8>>],
-    plan: &Plan,
+    plan: &PlainRepairPlan,
     z: u32,
     column: &[u8],
     chunk: &mut [u8],
@@ -171,7 +177,7 @@ fn write_row(
 fn write_chunk(
     g: Geometry,
     parts: &[Option<Vec<u8>>],
-    plan: &Plan,
+    plan: &PlainRepairPlan,
     layer: &mut [u8],
     sums: &mut [u8],
     column: &mut [u8],
@@ -196,7 +202,7 @@ fn write_in_rooms(
     alloc: Global,
     g: Geometry,
     parts: &[Option<Vec<u8>>],
-    plan: &Plan,
+    plan: &PlainRepairPlan,
     chunk: &mut [u8],
 ) -> Result<(), AllocError>
     requires plan { IsPlan g plan.now }

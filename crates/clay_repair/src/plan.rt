@@ -12,7 +12,7 @@ use std::alloc::{AllocError, Global};
 
 /// The place of the lost node, and the layers that are read.
 #[derive(Drop)]
-pub struct Plan {
+pub struct PlainRepairPlan {
     /// The lost chunk.
     pub lost: u32,
     /// The row of its node.
@@ -67,7 +67,7 @@ fn column_points(alloc: Global, g: Geometry, column: u32) -> Result<Vec<u8>, All
 }
 
 /// The plan for a lost chunk.
-pub fn make_plan(alloc: Global, g: Geometry, lost: u32) -> Result<Plan, AllocError>
+pub fn make_plan(alloc: Global, g: Geometry, lost: u32) -> Result<PlainRepairPlan, AllocError>
     requires { lost < chunk_count g }
     ensures plan { IfOk result (IsPlan g) }
     ensures lost { IfOk result (λ plan. plan.lost ≡ lost) }
@@ -78,7 +78,7 @@ pub fn make_plan(alloc: Global, g: Geometry, lost: u32) -> Result<Plan, AllocErr
     let points = column_points(alloc, g, column)?;
     let solver = Solver::new(alloc, &points)?;
     let layers = g.repair_layers(alloc, lost)?;
-    Ok(Plan {
+    Ok(PlainRepairPlan {
         lost,
         row,
         column,
