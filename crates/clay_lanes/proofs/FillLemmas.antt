@@ -23,7 +23,7 @@ use Rattle.clay_lanes.specs.Recovered.{IsPlanFor}
 use Rattle.clay_lanes.specs.Places.{KeepsPlaces}
 use Rattle.clay_lanes.specs.Fillings.{IsPlanned, IsFilling, pieces_in, KeepsOthers}
 use Rattle.clay_lanes.specs.Standing.{starts_left, left_count, is_left_gone, left_pieces, pieces_around, IsRoom, IsRoomAround, StandInPlace}
-use Rattle.clay_lanes.specs.declared.plan.Plan.{Plan}
+use Rattle.clay_lanes.specs.declared.plan.DecodePlan.{DecodePlan}
 use Rattle.clay_lanes.specs.declared.places.Left.{Left}
 use Rattle.clay_lanes.specs.declared.places.Filling.{Filling}
 use Rattle.clay_lanes.specs.declared.places.Left.TheVariants.{Apart, Among}
@@ -249,7 +249,7 @@ starts_placed g missing starts are c h =
 
 -- ---- where nothing is missing
 
-pub nothing_gone : (g : Shape) (pieces : List (Option (List ℕ))) (plan : Plan) → IsPlanFor g (is_gone g pieces) plan → length plan.points.items ≡ 0
+pub nothing_gone : (g : Shape) (pieces : List (Option (List ℕ))) (plan : DecodePlan) → IsPlanFor g (is_gone g pieces) plan → length plan.points.items ≡ 0
     → (c : ℕ) → c < chunk_count g → is_none (get_or pieces c None) ≡ true → ⊥
 nothing_gone g pieces plan is none c below gone =
     let i : ℕ = node_of_chunk g c in

@@ -15,7 +15,7 @@ use Rattle.code_laws.proofs.Nodes.{few_points}
 use Rattle.lane_repair.specs.Pieces.{HoldsByte}
 use Rattle.clay_lanes.specs.Present.{AreChunks, FitsChunks, is_gone}
 use Rattle.clay_lanes.specs.Recovered.{IsPlanFor, HoldsLayerRows, AreRowsOfLayers, AreNext, missing_of}
-use Rattle.clay_lanes.specs.declared.plan.Plan.{Plan}
+use Rattle.clay_lanes.specs.declared.plan.DecodePlan.{DecodePlan}
 
 -- ---- which entries are none
 
@@ -80,7 +80,7 @@ completes_of g have word fits = record { codeword = fits.codeword; agrees = fits
 
 -- ---- plans
 
-pub plan_same : (g : Shape) (gone other : ℕ → Bool) (plan : Plan) → ((i : ℕ) → gone i ≡ other i) → IsPlanFor g gone plan → IsPlanFor g other plan
+pub plan_same : (g : Shape) (gone other : ℕ → Bool) (plan : DecodePlan) → ((i : ℕ) → gone i ≡ other i) → IsPlanFor g gone plan → IsPlanFor g other plan
 plan_same g gone other plan same is = record {
   geometry = is.geometry;
   few = is.few;
@@ -93,7 +93,7 @@ plan_same g gone other plan same is = record {
   fifths = is.fifths;
 }
 
-pub block_planned : (g : Shape) (have : List (Option (Vec ℕ Global))) (plan : Plan) → IsPlanFor g (is_erased g have) plan → IsPlanFor g (is_gone g (parts have)) plan
+pub block_planned : (g : Shape) (have : List (Option (Vec ℕ Global))) (plan : DecodePlan) → IsPlanFor g (is_erased g have) plan → IsPlanFor g (is_gone g (parts have)) plan
 block_planned g have plan is = plan_same g (is_erased g have) (is_gone g (parts have)) plan (λ i. sym (gone_erased g have i)) is
 
 -- ---- what is known of one kind of codewords is known of fewer

@@ -11,11 +11,11 @@ use Rattle.clay_model.specs.Left.{AreLong, Completes}
 use Rattle.code_laws.specs.Solved.{is_erased, uncoupled_byte}
 use Rattle.generator_matrix.specs.Generated.{IsGeneratorOf}
 use Rattle.lane_repair.specs.Pieces.{HoldsByte}
-use Rattle.clay_lanes.specs.declared.plan.Plan.{Plan}
+use Rattle.clay_lanes.specs.declared.plan.DecodePlan.{DecodePlan}
 
 -- the gone nodes, which are few enough, the factors of every node in their values, the order of the layers, a subchunk of zeros, and the
 -- products of the inverse of 5
-pub record IsPlanFor (g : Shape) (gone : ℕ → Bool) (plan : Plan) : Type 0 where
+pub record IsPlanFor (g : Shape) (gone : ℕ → Bool) (plan : DecodePlan) : Type 0 where
   pub geometry : IsGeometry g
   pub few : length plan.points.items ≤ g.parity_count
   pub nodes : length plan.erased.items ≡ node_count g
@@ -27,7 +27,7 @@ pub record IsPlanFor (g : Shape) (gone : ℕ → Bool) (plan : Plan) : Type 0 wh
   pub fifths : plan.fifths ≡ determinant_inverse
 
 -- a call of decoding works with the plan of the missing chunks
-pub record IsLanePlan (g : Shape) (have : List (Option (Vec ℕ Global))) (plan : Plan) : Type 0 where
+pub record IsLanePlan (g : Shape) (have : List (Option (Vec ℕ Global))) (plan : DecodePlan) : Type 0 where
   pub count : length have ≡ chunk_count g
   pub lengths : AreLong (chunk_length g) have
   pub nodes : IsPlanFor g (is_erased g have) plan
@@ -61,7 +61,7 @@ abbrev pub KeepsBytes : Shape → List (Option (Vec ℕ Global)) → ℕ → Lis
 KeepsBytes g have c old new = (p : ℕ) → HoldsByteOf g have c old p → HoldsByteOf g have c new p
 
 -- the rows of a plan's erased nodes in every layer, for such codewords
-abbrev pub HoldsLayersOf : Shape → List (Option (Vec ℕ Global)) → Plan → ℕ → ℕ → List ℕ → Type 0
+abbrev pub HoldsLayersOf : Shape → List (Option (Vec ℕ Global)) → DecodePlan → ℕ → ℕ → List ℕ → Type 0
 HoldsLayersOf g have plan at len solved =
     (n : ℕ) → n < layer_count g → HoldsLayerRows g (λ word. Completes g have word) at len plan.points.items n solved
 
@@ -70,10 +70,10 @@ abbrev pub HaveLength : ℕ → ℕ → List (List ℕ) → Type 0
 HaveLength count len chunks = (i : ℕ) → i < count → length (slice_index_or chunks i []) ≡ len
 
 -- of some layers, for such codewords: their rows, and that those of a lower score are solved
-abbrev pub AreRowsOfLayersFor : Shape → List (Option (Vec ℕ Global)) → Plan → ℕ → ℕ → List ℕ → List ℕ → Type 0
+abbrev pub AreRowsOfLayersFor : Shape → List (Option (Vec ℕ Global)) → DecodePlan → ℕ → ℕ → List ℕ → List ℕ → Type 0
 AreRowsOfLayersFor g have plan at len layers rows = AreRowsOfLayers g (λ word. Completes g have word) at len plan.points.items layers (length layers) rows
 
-abbrev pub AreNextOf : Shape → List (Option (Vec ℕ Global)) → Plan → ℕ → ℕ → List ℕ → List ℕ → Type 0
+abbrev pub AreNextOf : Shape → List (Option (Vec ℕ Global)) → DecodePlan → ℕ → ℕ → List ℕ → List ℕ → Type 0
 AreNextOf g have plan at len layers solved = AreNext g (λ word. Completes g have word) at len plan.erased.items plan.points.items layers solved
 
 -- the numbers of the missing chunks from c on, rising

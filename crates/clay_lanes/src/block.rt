@@ -2,7 +2,7 @@
 ghost use Rattle.std.specs.Prelude.{◌≡◌, ◌*◌, ◌≤◌, length, IfOk};
 ghost use Rattle.clay_grid.specs.Shape.{layer_count};
 
-use crate::plan::Plan;
+use crate::plan::DecodePlan;
 use clay_grid::Geometry;
 use clay_kernels::zeros;
 use lane_repair::ChunkView;
@@ -15,7 +15,7 @@ pub struct Block<'a> {
     /// The chunks that are there.
     pub have: ChunkView<'a>,
     /// The plan of the missing ones.
-    pub plan: &'a Plan,
+    pub plan: &'a DecodePlan,
     pub at: usize,
     pub len: usize,
 }
@@ -33,7 +33,12 @@ pub struct Rooms {
 
 impl Rooms {
     /// The rooms for a block of `len` byte positions.
-    pub fn new(alloc: Global, g: Geometry, plan: &Plan, len: usize) -> Result<Rooms, AllocError>
+    pub fn new(
+        alloc: Global,
+        g: Geometry,
+        plan: &DecodePlan,
+        len: usize,
+    ) -> Result<Rooms, AllocError>
         requires few { length plan.now.points.items ≤ g.parity_count }
         requires within { len ≤ g.width }
         ensures values_len { IfOk result (λ rooms. length rooms.values.items ≡ len) }

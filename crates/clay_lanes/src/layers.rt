@@ -5,7 +5,7 @@ ghost use Rattle.clay_lanes.specs.Recovered.{IsLanePlan, HoldsLayersOf, AreNextO
 ghost use Rattle.clay_lanes.specs.Blocks.{IsBlock, rows_length, solved_length, IsCoupledIn, IsUncoupledIn, IsPresentIn, HoldsColumnIn, HoldsNodesIn, HoldsRowsIn, HoldsLayerIn, HoldsLayersIn, HoldsLowerIn, AreNextIn, AreRowsOfLayersIn};
 
 use crate::block::Block;
-use crate::plan::Plan;
+use crate::plan::DecodePlan;
 use clay_grid::Geometry;
 use clay_kernels::{column_room, uncouple, uncouple_from};
 use clay_model::partner_of;
@@ -314,7 +314,7 @@ impl<'a> Block<'a> {
 pub fn solve_some_layers(
     g: Geometry,
     have: &[Option<Vec<u8>>],
-    plan: &Plan,
+    plan: &DecodePlan,
     at: usize,
     len: usize,
     solved: &[u8],
@@ -343,7 +343,7 @@ pub fn solve_some_layers(
 pub fn solve_layers(
     g: Geometry,
     have: &[Option<Vec<u8>>],
-    plan: &Plan,
+    plan: &DecodePlan,
     at: usize,
     values: &mut [u8],
     rows: &mut [u8],

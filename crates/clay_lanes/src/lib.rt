@@ -17,4 +17,4 @@ pub use lane_repair::{ChunkView, rebuild, rebuild_into};
 pub use layers::{solve_layers, solve_some_layers};
 pub use lost::{couple_chunk, decode, missing, missing_count};
 pub use places::{missing_into, recover_into};
-pub use plan::{Plan, make_plan, plan_of};
+pub use plan::{DecodePlan, make_plan, plan_of};

@@ -10,7 +10,7 @@ ghost use Rattle.clay_lanes.specs.Recovered.{IsLanePlan, HoldsByteOf, KeepsBytes
 ghost use Rattle.clay_lanes.specs.Blocks.{IsBlock, rows_length, solved_length, row_bytes, solved_bytes, IsCoupledIn, HoldsLayersIn, HoldsChunkIn, KeepsBytesIn, HoldsChunksIn, KeepsChunksIn};
 
 use crate::block::{Block, Rooms};
-use crate::plan::{Plan, make_plan};
+use crate::plan::{DecodePlan, make_plan};
 use clay_grid::Geometry;
 use clay_kernels::{BLOCK, couple, uncouple, zeros};
 use clay_model::{DecodeFault, partner_of};
@@ -176,7 +176,7 @@ impl<'a> Block<'a> {
 pub fn couple_chunk(
     g: Geometry,
     have: &[Option<Vec<u8>>],
-    plan: &Plan,
+    plan: &DecodePlan,
     solved: &[u8],
     c: u32,
     at: usize,

@@ -11,7 +11,7 @@ ghost use Rattle.clay_lanes.specs.Fillings.{IsPlanned, pieces_in, around_in, IsF
 
 use crate::block::{Block, Rooms};
 use crate::lost::missing_count;
-use crate::plan::{Plan, make_plan, plan_of};
+use crate::plan::{DecodePlan, make_plan, plan_of};
 use clay_grid::Geometry;
 use clay_kernels::BLOCK;
 use clay_model::DecodeFault;
@@ -33,7 +33,7 @@ pub(crate) struct Filling<'a> {
     pub(crate) g: Geometry,
     pub(crate) left: Left<'a>,
     /// The plan of the missing chunks.
-    pub(crate) plan: &'a Plan,
+    pub(crate) plan: &'a DecodePlan,
     pub(crate) at: usize,
     pub(crate) len: usize,
 }
@@ -222,7 +222,7 @@ fn fill_all(
     alloc: Global,
     g: Geometry,
     left: Left<'_>,
-    plan: &Plan,
+    plan: &DecodePlan,
     chunks: &mut [u8],
 ) -> Result<(), AllocError>
     requires plan { IsPlanFor g (is_gone g (left_pieces left chunks.old (chunk_length g))) plan.now }
@@ -333,7 +333,7 @@ fn plan_among(
     g: Geometry,
     starts: &[Option<usize>],
     chunks: &[u8],
-) -> Result<Plan, AllocError>
+) -> Result<DecodePlan, AllocError>
     requires count { length starts.now ≡ chunk_count g }
     requires few { count_by is_none starts.now ≤ g.parity_count }
     requires room { EndWithin chunks.now starts.now (chunk_length g) }

@@ -15,7 +15,7 @@ use std::alloc::{AllocError, Global};
 
 /// The erased nodes, which are those of the missing chunks, and the order of the layers.
 #[derive(Drop)]
-pub struct Plan {
+pub struct DecodePlan {
     /// For each node, whether it is erased.
     pub erased: Vec<bool>,
     /// The erased nodes, rising.
@@ -73,7 +73,7 @@ fn erased_points(alloc: Global, erased: &[bool]) -> Result<Vec<u8>, AllocError>
 }
 
 /// The plan for what a view shows, of which no more is missing than there are parity chunks.
-pub fn plan_of(alloc: Global, g: Geometry, have: ChunkView<'_>) -> Result<Plan, AllocError>
+pub fn plan_of(alloc: Global, g: Geometry, have: ChunkView<'_>) -> Result<DecodePlan, AllocError>
     requires count { length (pieces_of have) ≡ chunk_count g }
     requires room { HasRoom have }
     requires few { count_by is_none (pieces_of have) ≤ g.parity_count }
@@ -84,7 +84,7 @@ pub fn plan_of(alloc: Global, g: Geometry, have: ChunkView<'_>) -> Result<Plan, 
     let points = erased_points(alloc, &erased)?;
     let generator = generator_of(alloc, g, &points)?;
     let layers = g.layers_by_score(alloc, &erased)?;
-    Ok(Plan {
+    Ok(DecodePlan {
         erased,
         points,
         generator,
@@ -95,7 +95,11 @@ pub fn plan_of(alloc: Global, g: Geometry, have: ChunkView<'_>) -> Result<Plan, 
 }
 
 /// The plan for chunks of which no more are missing than there are parity chunks.
-pub fn make_plan(alloc: Global, g: Geometry, have: &[Option<Vec<u8>>]) -> Result<Plan, AllocError>
+pub fn make_plan(
+    alloc: Global,
+    g: Geometry,
+    have: &[Option<Vec<u8>>],
+) -> Result<DecodePlan, AllocError>
     requires count { length have.now ≡ chunk_count g }
     requires lengths { AreLong (chunk_length g) have.now }
     requires few { count_by is_none have.now ≤ g.parity_count }

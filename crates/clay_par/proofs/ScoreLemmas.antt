@@ -15,7 +15,7 @@ use Rattle.clay_model.specs.Left.{Completes}
 use Rattle.code_laws.specs.Solved.{uncoupled_byte}
 use Rattle.code_laws.proofs.Layer.{lower_earlier}
 use Rattle.clay_lanes.specs.Recovered.{HoldsLayerRows, HoldsLower, AreRowsOfLayers}
-use Rattle.clay_lanes.specs.declared.plan.Plan.{Plan}
+use Rattle.clay_lanes.specs.declared.plan.DecodePlan.{DecodePlan}
 use Rattle.clay_par.specs.Scores.{IsRun, HoldsFirst, IsRowByte, IsShare}
 
 -- the place of byte b of row e in layer n
@@ -34,7 +34,7 @@ part_long xs first k count long inside =
     omega (arith, taken, dropped)
 
 -- the rows of a share are rows of all the layers
-pub share_right : (g : Shape) (have : List (Option (Vec ℕ Global))) (plan : Plan) (at len : ℕ) (layers : List ℕ) (start n k : ℕ) (rows : List ℕ)
+pub share_right : (g : Shape) (have : List (Option (Vec ℕ Global))) (plan : DecodePlan) (at len : ℕ) (layers : List ℕ) (start n k : ℕ) (rows : List ℕ)
     → (share : IsShare (length plan.points.items * len) layers start n) → k ≡ share.count
     → AreRowsOfLayers g (λ word. Completes g have word) at len plan.points.items (take k (drop share.first layers)) (length (take k (drop share.first layers))) rows
     → (o : ℕ) → o < n → IsRowByte g have plan at len layers (start + o) (get_or rows o 0)
@@ -112,7 +112,7 @@ put_elsewhere y z part start k solved new other start_is width room long o ho =
 -- ---- runs
 
 -- of the layers of a run those of a lower score are solved, where the layers before the run are
-pub run_next : (g : Shape) (have : List (Option (Vec ℕ Global))) (plan : Plan) (at len from count i : ℕ) (solved : List ℕ) → IsByScore g plan.erased.items plan.layers.items → IsRun g plan from count → i < count
+pub run_next : (g : Shape) (have : List (Option (Vec ℕ Global))) (plan : DecodePlan) (at len from count i : ℕ) (solved : List ℕ) → IsByScore g plan.erased.items plan.layers.items → IsRun g plan from count → i < count
     → HoldsFirst g have plan at len from solved
     → HoldsLower g (λ word. Completes g have word) at len plan.erased.items plan.points.items (get_or plan.layers.items (from + i) 0) solved
 run_next g have plan at len from count i solved order run hi before p hp less =
@@ -137,7 +137,7 @@ run_next g have plan at len from count i solved order run hi before p hp less =
     ]
 
 -- the layers of a run, whose rows were put to their places, are solved beside those before
-pub run_solved : (g : Shape) (have : List (Option (Vec ℕ Global))) (plan : Plan) (at len from count : ℕ) (layers rows old new : List ℕ)
+pub run_solved : (g : Shape) (have : List (Option (Vec ℕ Global))) (plan : DecodePlan) (at len from count : ℕ) (layers rows old new : List ℕ)
     → AreRowsOfLayers g (λ word. Completes g have word) at len plan.points.items layers count rows
     → ((i : ℕ) → i < count → get_or layers i 0 ≡ get_or plan.layers.items (from + i) 0)
     → ((k i : ℕ) → k < from → i < count → get_or layers i 0 ≢ get_or plan.layers.items k 0)

@@ -9,13 +9,13 @@ use Rattle.clay_model.specs.Left.{Completes}
 use Rattle.lane_repair.specs.Pieces.{HoldsByte}
 use Rattle.clay_lanes.specs.Recovered.{HoldsLayerRows}
 use Rattle.clay_lanes.specs.Places.{AreFilled}
-use Rattle.clay_lanes.specs.declared.plan.Plan.{Plan}
+use Rattle.clay_lanes.specs.declared.plan.DecodePlan.{DecodePlan}
 use Rattle.clay_par.specs.Ranges.{HasRoom}
 use Rattle.clay_par.specs.Solved.{HoldsLayers, IsChunk, IsFilled}
 use Rattle.clay_par.specs.declared.ranges.Range.{Range}
 
 -- a range after the values of its positions were written into it
-pub solved_range : (g : Shape) (have : List (Option (Vec ℕ Global))) (plan : Plan) (before after : Range) → HasRoom g (length plan.points.items) (layer_count g) before
+pub solved_range : (g : Shape) (have : List (Option (Vec ℕ Global))) (plan : DecodePlan) (before after : Range) → HasRoom g (length plan.points.items) (layer_count g) before
     → after.at ≡ before.at → length after.values.items ≡ length before.values.items → length after.rows.items ≡ length before.rows.items → length after.solved.items ≡ length before.solved.items
     → ((n : ℕ) → n < layer_count g → HoldsLayerRows g (λ word. Completes g have word) before.at (length before.values.items) plan.points.items n after.solved.items)
     → HoldsLayers g have plan after

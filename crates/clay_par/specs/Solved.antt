@@ -5,18 +5,18 @@ use Rattle.clay_grid.specs.Shape.{Shape, layer_count, chunk_length}
 use Rattle.clay_model.specs.Left.{Completes}
 use Rattle.lane_repair.specs.Pieces.{HoldsByte}
 use Rattle.clay_lanes.specs.Recovered.{HoldsLayerRows}
-use Rattle.clay_lanes.specs.declared.plan.Plan.{Plan}
+use Rattle.clay_lanes.specs.declared.plan.DecodePlan.{DecodePlan}
 use Rattle.clay_par.specs.declared.ranges.Range.{Range}
 use Rattle.clay_par.specs.Ranges.{HasRoom, IsCovered}
 
 -- the range holds the erased nodes' values in every layer
-pub record HoldsLayers (g : Shape) (have : List (Option (Vec ℕ Global))) (plan : Plan) (range : Range) : Type 0 where
+pub record HoldsLayers (g : Shape) (have : List (Option (Vec ℕ Global))) (plan : DecodePlan) (range : Range) : Type 0 where
   pub room : HasRoom g (length plan.points.items) (layer_count g) range
   pub solved : (n : ℕ) → n < layer_count g
       → HoldsLayerRows g (λ word. Completes g have word) range.at (length range.values.items) plan.points.items n range.solved.items
 
 -- ranges of all positions hold them
-pub record AreSolved (g : Shape) (have : List (Option (Vec ℕ Global))) (plan : Plan) (ranges : List Range) : Type 0 where
+pub record AreSolved (g : Shape) (have : List (Option (Vec ℕ Global))) (plan : DecodePlan) (ranges : List Range) : Type 0 where
   pub each : All (HoldsLayers g have plan) ranges
   pub all : (b : ℕ) → b < g.width → IsCovered ranges b
 

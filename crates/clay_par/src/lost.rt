@@ -15,14 +15,14 @@ use crate::ranges::{Range, make_range, make_ranges};
 use crate::scores::solve_by_scores;
 use clay_grid::Geometry;
 use clay_kernels::{BLOCK, zeros};
-use clay_lanes::{Plan, couple_chunk, make_plan, missing_count, solve_layers};
+use clay_lanes::{DecodePlan, couple_chunk, make_plan, missing_count, solve_layers};
 use clay_model::DecodeFault;
 use rayon::prelude::*;
 use std::alloc::{AllocError, Global};
 use std::thread::Threads;
 
 // Writes the erased nodes' uncoupled values in a range. Where no chunk is missing there are none.
-fn solve(g: Geometry, have: &[Option<Vec<u8>>], plan: &Plan, range: &mut Range)
+fn solve(g: Geometry, have: &[Option<Vec<u8>>], plan: &DecodePlan, range: &mut Range)
     requires plan { IsLanePlan g have.now plan.now }
     requires room { HasRoom g (length plan.now.points.items) (layer_count g) range.old }
     ensures place { SamePlace range.old range.new }
@@ -47,7 +47,7 @@ fn solve_all<R: Threads + Sync>(
     rt: &R,
     g: Geometry,
     have: &[Option<Vec<u8>>],
-    plan: &Plan,
+    plan: &DecodePlan,
     ranges: &mut [Range],
 )
     requires plan { IsLanePlan g have.now plan.now }
@@ -62,7 +62,7 @@ fn solve_all<R: Threads + Sync>(
 fn write_range(
     g: Geometry,
     have: &[Option<Vec<u8>>],
-    plan: &Plan,
+    plan: &DecodePlan,
     range: &Range,
     c: u32,
     chunk: &mut [u8],
@@ -92,7 +92,7 @@ fn write_range(
 fn write_chunk(
     g: Geometry,
     have: &[Option<Vec<u8>>],
-    plan: &Plan,
+    plan: &DecodePlan,
     ranges: &[Range],
     c: u32,
     chunk: &mut [u8],
@@ -115,7 +115,7 @@ fn missing_chunk(
     alloc: Global,
     g: Geometry,
     have: &[Option<Vec<u8>>],
-    plan: &Plan,
+    plan: &DecodePlan,
     ranges: &[Range],
     c: u32,
 ) -> Result<Vec<u8>, AllocError>
@@ -135,7 +135,7 @@ fn chunk(
     alloc: Global,
     g: Geometry,
     have: &[Option<Vec<u8>>],
-    plan: &Plan,
+    plan: &DecodePlan,
     ranges: &[Range],
     c: usize,
 ) -> Result<Vec<u8>, AllocError>
@@ -156,7 +156,7 @@ fn each_chunk<R: Threads + Sync>(
     alloc: Global,
     g: Geometry,
     have: &[Option<Vec<u8>>],
-    plan: &Plan,
+    plan: &DecodePlan,
     ranges: &[Range],
 ) -> Result<Vec<Result<Vec<u8>, AllocError>>, AllocError>
     requires plan { IsLanePlan g have.now plan.now }
@@ -183,7 +183,7 @@ fn chunks<R: Threads + Sync>(
     alloc: Global,
     g: Geometry,
     have: &[Option<Vec<u8>>],
-    plan: &Plan,
+    plan: &DecodePlan,
     ranges: &[Range],
 ) -> Result<Vec<Vec<u8>>, AllocError>
     requires plan { IsLanePlan g have.now plan.now }
@@ -200,7 +200,7 @@ fn solve_shared<R: Threads + Sync>(
     alloc: Global,
     g: Geometry,
     have: &[Option<Vec<u8>>],
-    plan: &Plan,
+    plan: &DecodePlan,
     range: &mut Range,
 ) -> Result<(), AllocError>
     requires plan { IsLanePlan g have.now plan.now }
@@ -223,7 +223,7 @@ fn solved_range<R: Threads + Sync>(
     alloc: Global,
     g: Geometry,
     have: &[Option<Vec<u8>>],
-    plan: &Plan,
+    plan: &DecodePlan,
 ) -> Result<Vec<Range>, AllocError>
     requires plan { IsLanePlan g have.now plan.now }
     requires short { g.width ≤ 4096 }
@@ -243,7 +243,7 @@ fn solved_ranges<R: Threads + Sync>(
     alloc: Global,
     g: Geometry,
     have: &[Option<Vec<u8>>],
-    plan: &Plan,
+    plan: &DecodePlan,
 ) -> Result<Vec<Range>, AllocError>
     requires { IsLanePlan g have.now plan.now }
     ensures { IfOk result (λ ranges. AreSolved g have.now plan.now ranges.items) }
@@ -275,7 +275,7 @@ pub fn recover<R: Threads + Sync>(
 fn fill_chunk(
     g: Geometry,
     have: &[Option<Vec<u8>>],
-    plan: &Plan,
+    plan: &DecodePlan,
     ranges: &[Range],
     c: usize,
     chunk: &mut [u8],
@@ -296,7 +296,7 @@ fn fill_chunk(
 fn fill_at(
     g: Geometry,
     have: &[Option<Vec<u8>>],
-    plan: &Plan,
+    plan: &DecodePlan,
     ranges: &[Range],
     start: usize,
     chunk: &mut [u8],
@@ -316,7 +316,7 @@ fn fill_all<R: Threads + Sync>(
     rt: &R,
     g: Geometry,
     have: &[Option<Vec<u8>>],
-    plan: &Plan,
+    plan: &DecodePlan,
     ranges: &[Range],
     chunks: &mut [u8],
 )

@@ -7,7 +7,7 @@ ghost use Rattle.clay_par.specs.Scores.{IsRun, HoldsFirst, IsRowByte, IsShare};
 
 use clay_grid::Geometry;
 use clay_kernels::zeros;
-use clay_lanes::{Plan, solve_some_layers};
+use clay_lanes::{DecodePlan, solve_some_layers};
 use rayon::current_num_threads;
 use rayon::prelude::*;
 use std::alloc::{AllocError, Global};
@@ -33,7 +33,7 @@ fn share_count<R: Threads>(rt: &R, g: Geometry, len: usize, count: usize) -> usi
 fn solve_share(
     g: Geometry,
     have: &[Option<Vec<u8>>],
-    plan: &Plan,
+    plan: &DecodePlan,
     at: usize,
     len: usize,
     solved: &[u8],
@@ -63,7 +63,7 @@ fn solve_rows<R: Threads + Sync>(
     rt: &R,
     g: Geometry,
     have: &[Option<Vec<u8>>],
-    plan: &Plan,
+    plan: &DecodePlan,
     at: usize,
     len: usize,
     solved: &[u8],
@@ -116,7 +116,7 @@ fn solve_run<R: Threads + Sync>(
     alloc: Global,
     g: Geometry,
     have: &[Option<Vec<u8>>],
-    plan: &Plan,
+    plan: &DecodePlan,
     at: usize,
     len: usize,
     from: usize,
@@ -141,7 +141,7 @@ fn solve_run<R: Threads + Sync>(
 }
 
 // How many layers have the score of the one at a place in the order, from there on.
-fn run_len(g: Geometry, plan: &Plan, from: usize) -> usize
+fn run_len(g: Geometry, plan: &DecodePlan, from: usize) -> usize
     requires nodes { length plan.now.erased.items ≡ node_count g }
     requires order { IsByScore g plan.now.erased.items plan.now.layers.items }
     requires from { from < length plan.now.layers.items }
@@ -162,7 +162,7 @@ pub fn solve_by_scores<R: Threads + Sync>(
     alloc: Global,
     g: Geometry,
     have: &[Option<Vec<u8>>],
-    plan: &Plan,
+    plan: &DecodePlan,
     at: usize,
     len: usize,
     solved: &mut [u8],
