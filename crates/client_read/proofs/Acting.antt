@@ -12,8 +12,8 @@ use Rattle.client_read.specs.Reads.{ReadOf}
 use Rattle.client_read.specs.Stages.{state_by, due_by}
 use Rattle.client_read.specs.Inside.{Keeps, read_in, IsRead}
 use Rattle.client_read.specs.declared.read.ReadCall.TheInside.{Inside}
-use Rattle.client_read.specs.declared.stage.Stage.{Stage}
-use Rattle.client_read.specs.declared.stage.Stage.TheVariants as stage
+use Rattle.client_read.specs.declared.stage.ReadStage.{ReadStage}
+use Rattle.client_read.specs.declared.stage.ReadStage.TheVariants as stage
 use Rattle.client_read.proofs.Standings.{looks_first, closed_finished}
 
 -- its look, where it stands before it
@@ -25,10 +25,10 @@ first_act a is first =
 
 module _ (a : Inside) (r : ReadOf) (is : IsRead a) (view : read_in a ≡ r) where
   -- the call as it would stand at a stage
-  abbrev at_stage : Stage → CallOf
+  abbrev at_stage : ReadStage → CallOf
   at_stage now = record ((read_in a).call) { state = record { pairs = []; at = state_by now a.gatherings a.point a.outcome }; due = due_by now a.gatherings }
 
-  seen_at : (now : Stage) → a.stage ≡ now → act_now (at_stage now) ≡ act_now r.call
+  seen_at : (now : ReadStage) → a.stage ≡ now → act_now (at_stage now) ≡ act_now r.call
   seen_at now at = ap (λ s. act_now (at_stage s)) (sym at) ∙ ap (λ (x : ReadOf). act_now x.call) view
 
   pub looks : a.stage ≡ stage.Looking → act.Directory there.Look ≡ act_now r.call

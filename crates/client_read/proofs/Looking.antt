@@ -41,7 +41,7 @@ use Rattle.call_steps.specs.Callers.{IsClient, IsWaiting}
 use Rattle.client_read.specs.Stages.{IsLooked}
 use Rattle.client_read.specs.Owed.{owed_after_look, owed_by, owed_after}
 use Rattle.client_read.specs.Inside.{Keeps}
-use Rattle.client_read.specs.declared.stage.Stage.{Stage}
+use Rattle.client_read.specs.declared.stage.ReadStage.{ReadStage}
 use Rattle.client_read.proofs.Standings.{looks_first}
 
 -- what a look tells
@@ -87,18 +87,18 @@ never_ready (call.Write name offset content) base length stripes is fits = true�
 never_ready (call.Delete name) base length stripes is fits = true≢false (sym is)
 
 -- the ticket that a call has after its look
-pub kept_looked : (answer : Result (Look ⊤ ⊤) AllocError) (next : Stage) (read : Call) (number : ℕ) (token : ActorToken) (p : GatheringsOf) → is_read read ≡ true
+pub kept_looked : (answer : Result (Look ⊤ ⊤) AllocError) (next : ReadStage) (read : Call) (number : ℕ) (token : ActorToken) (p : GatheringsOf) → is_read read ≡ true
     → FitsKind (note_of read).kind (looked answer) → IsWaiting number token → IsLooked (looked answer) next
     → Keeps next number (note_of read) (token_after token number (DirectoryStep.Look (note_of read)) (looked answer)) p
 kept_looked answer next read number (ActorToken.InCall held) p is fits waits goes = absurd waits
 kept_looked (Ok (look.Answer gone point reply)) next read number (ActorToken.Seated seat) p is fits waits goes =
-    subst (λ (s : Stage). Keeps s number (note_of read) (token_after (ActorToken.Seated seat) number (DirectoryStep.Look (note_of read)) (Told.Answer point.0 reply)) p) (sym goes) tt
+    subst (λ (s : ReadStage). Keeps s number (note_of read) (token_after (ActorToken.Seated seat) number (DirectoryStep.Look (note_of read)) (Told.Answer point.0 reply)) p) (sym goes) tt
 kept_looked (Ok (look.Pinned gone point length stripes)) next read number (ActorToken.Seated seat) p is fits waits goes =
-    subst (λ (s : Stage). Keeps s number (note_of read) (token_after (ActorToken.Seated seat) number (DirectoryStep.Look (note_of read)) (looked (Ok (look.Pinned gone point length stripes)))) p) (sym goes)
+    subst (λ (s : ReadStage). Keeps s number (note_of read) (token_after (ActorToken.Seated seat) number (DirectoryStep.Look (note_of read)) (looked (Ok (look.Pinned gone point length stripes)))) p) (sym goes)
     (record { its = refl; its_number = refl })
 kept_looked (Ok (look.Ready gone base length stripes)) next read number (ActorToken.Seated seat) p is fits waits goes = absurd (never_ready read (option_map (λ (point : Point). point.0) base) length (map seen_in stripes.items) is fits)
 kept_looked (Err e) next read number (ActorToken.Seated seat) p is fits waits goes =
-    subst (λ (s : Stage). Keeps s number (note_of read) (token_after (ActorToken.Seated seat) number (DirectoryStep.Look (note_of read)) Told.Short) p) (sym goes) tt
+    subst (λ (s : ReadStage). Keeps s number (note_of read) (token_after (ActorToken.Seated seat) number (DirectoryStep.Look (note_of read)) Told.Short) p) (sym goes) tt
 
 -- it is the same client's
 pub client_looked : (answer : Result (Look ⊤ ⊤) AllocError) (number : ℕ) (note : Note) (token : ActorToken) → IsWaiting number token → IsClient (actor_of token)

@@ -14,8 +14,8 @@ use Rattle.client_read.specs.Reads.{ReadOf}
 use Rattle.client_read.specs.Stages.{state_by, due_by}
 use Rattle.client_read.specs.Inside.{IsHolding, Keeps, read_in, IsRead}
 use Rattle.client_read.specs.declared.read.ReadCall.TheInside.{Inside}
-use Rattle.client_read.specs.declared.stage.Stage.{Stage}
-use Rattle.client_read.specs.declared.stage.Stage.TheVariants as stage
+use Rattle.client_read.specs.declared.stage.ReadStage.{ReadStage}
+use Rattle.client_read.specs.declared.stage.ReadStage.TheVariants as stage
 use Rattle.client_read.proofs.Standings.{looks_first, closed_finished}
 use Rattle.client_read.proofs.Looking.{may_look}
 
@@ -26,10 +26,10 @@ ends c (ActorToken.InCall held) note at its = passes c held DirectoryStep.End at
 
 module _ (a : Inside) (is : IsRead a) where
   -- the call as it would stand at a stage
-  abbrev at_stage : Stage → CallOf
+  abbrev at_stage : ReadStage → CallOf
   at_stage now = record ((read_in a).call) { state = record { pairs = []; at = state_by now a.gatherings a.point a.outcome }; due = due_by now a.gatherings }
 
-  by_stage : (now : Stage) → Keeps now a.number (note_of a.call.now) a.ticket a.gatherings → MayBy (at_stage now) (act_of (at_stage now))
+  by_stage : (now : ReadStage) → Keeps now a.number (note_of a.call.now) a.ticket a.gatherings → MayBy (at_stage now) (act_of (at_stage now))
   by_stage stage.Looking kept =
       subst (MayBy (at_stage stage.Looking)) (sym (looks_first a.call.now (tries_by a.gatherings.book.script) is.read a.gatherings.book.geometry))
       (λ d shape. may_look d a.ticket a.number a.call.now is.read is.client kept)

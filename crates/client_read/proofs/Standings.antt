@@ -31,8 +31,8 @@ use Rattle.call_steps.specs.Ends.{finished_of, is_ending}
 use Rattle.call_steps.specs.Callers.{IsWaiting}
 use Rattle.client_read.specs.Inside.{IsHolding, Keeps, read_in, IsRead}
 use Rattle.client_read.specs.declared.read.ReadCall.TheInside.{Inside}
-use Rattle.client_read.specs.declared.stage.Stage.{Stage}
-use Rattle.client_read.specs.declared.stage.Stage.TheVariants as stage
+use Rattle.client_read.specs.declared.stage.ReadStage.{ReadStage}
+use Rattle.client_read.specs.declared.stage.ReadStage.TheVariants as stage
 
 -- what a call that reads does first
 pub looks_first : (read : Call) (tries : ℕ) → is_read read ≡ true → (g : _) → act_at g tries (job_of read) [] State.Start ≡ Act.AtDirectory (DirectoryStep.Look (note_of read))
@@ -97,7 +97,7 @@ is_start State.Start = true
 is_start at = false
 
 -- a call that stands before its look
-pub before_look : (now : Stage) (p : GatheringsOf) (point : Point) (outcome : Outcome) (read : Call) (number : ℕ) (token : ActorToken) → is_read read ≡ true
+pub before_look : (now : ReadStage) (p : GatheringsOf) (point : Point) (outcome : Outcome) (read : Call) (number : ℕ) (token : ActorToken) → is_read read ≡ true
     → Keeps now number (note_of read) token p → state_by now p point outcome ≡ State.Start → now ≡ stage.Looking
 before_look stage.Looking p point outcome read number token is kept e = refl
 before_look stage.Gathering p point outcome read number token is kept e =
@@ -125,11 +125,11 @@ never_finished progress.TooMany e = true≢false (sym (ap is_finished_need e))
 never_finished progress.Short e = true≢false (sym (ap is_finished_need e))
 
 module _ (read : Call) (number : ℕ) (token : ActorToken) (p : GatheringsOf) (point : Point) (outcome : Outcome) (is : is_read read ≡ true) where
-  abbrev need_at_stage : Stage → Need
+  abbrev need_at_stage : ReadStage → Need
   need_at_stage now = need_by (act_at p.book.geometry (tries_by p.book.script) (job_of read) [] (state_by now p point outcome)) (due_by now p)
 
   -- needs of a server or the coder are those of its gatherings
-  pub needs_gathering : (test : Need → Bool) → test need.Directory ≡ false → test need.Finished ≡ false → (now : Stage) → Keeps now number (note_of read) token p
+  pub needs_gathering : (test : Need → Bool) → test need.Directory ≡ false → test need.Finished ≡ false → (now : ReadStage) → Keeps now number (note_of read) token p
       → test (need_at_stage now) ≡ true → now ≡ stage.Gathering
   needs_gathering test first last stage.Looking kept e =
       absurd (true≢false (sym e ∙ ap test (ap (λ act. need_by act false) (looks_first read (tries_by p.book.script) is p.book.geometry)) ∙ first))
@@ -140,7 +140,7 @@ module _ (read : Call) (number : ℕ) (token : ActorToken) (p : GatheringsOf) (p
   needs_gathering test first last stage.Finished kept e = absurd (true≢false (sym e ∙ last))
 
   -- where its pass ends next it stands before that end
-  pub ends_holding : (now : Stage) → Keeps now number (note_of read) token p → is_ending (state_by now p point outcome) ≡ true → IsHolding number (note_of read) token
+  pub ends_holding : (now : ReadStage) → Keeps now number (note_of read) token p → is_ending (state_by now p point outcome) ≡ true → IsHolding number (note_of read) token
   ends_holding stage.Looking kept e = absurd (true≢false (sym e))
   ends_holding stage.Gathering kept e = kept
   ends_holding stage.Ending kept e = kept
@@ -148,7 +148,7 @@ module _ (read : Call) (number : ℕ) (token : ActorToken) (p : GatheringsOf) (p
   ends_holding stage.Finished kept e = absurd (true≢false (sym e))
 
   -- and behind it then
-  pub ended_keeps : (next : ActorToken) (now : Stage) → Keeps now number (note_of read) token p → is_ending (state_by now p point outcome) ≡ true
+  pub ended_keeps : (next : ActorToken) (now : ReadStage) → Keeps now number (note_of read) token p → is_ending (state_by now p point outcome) ≡ true
       → need_at_stage now ≡ need.Directory → IsSeated next → Keeps (after_end now) number (note_of read) next p
   ended_keeps next stage.Looking kept e needs seated = absurd (true≢false (sym e))
   ended_keeps next stage.Gathering kept e needs seated = (seated, gathering_over p (job_of read) point.0 needs)
@@ -156,7 +156,7 @@ module _ (read : Call) (number : ℕ) (token : ActorToken) (p : GatheringsOf) (p
   ended_keeps next stage.Ended kept e needs seated = absurd (true≢false (sym e ∙ ap is_ending (closed_finished p point.0 kept.1).1))
   ended_keeps next stage.Finished kept e needs seated = absurd (true≢false (sym e))
 
-  pub ended_state : (now : Stage) → Keeps now number (note_of read) token p → is_ending (state_by now p point outcome) ≡ true
+  pub ended_state : (now : ReadStage) → Keeps now number (note_of read) token p → is_ending (state_by now p point outcome) ≡ true
       → state_by (after_end now) p point outcome ≡ finished_of (state_by now p point outcome)
   ended_state stage.Looking kept e = absurd (true≢false (sym e))
   ended_state stage.Gathering kept e = refl
@@ -164,14 +164,14 @@ module _ (read : Call) (number : ℕ) (token : ActorToken) (p : GatheringsOf) (p
   ended_state stage.Ended kept e = absurd (true≢false (sym e ∙ ap is_ending (closed_finished p point.0 kept.1).1))
   ended_state stage.Finished kept e = absurd (true≢false (sym e))
 
-  pub over_seated : (now : Stage) → Keeps now number (note_of read) token p → need_at_stage now ≡ need.Finished → IsSeated token
+  pub over_seated : (now : ReadStage) → Keeps now number (note_of read) token p → need_at_stage now ≡ need.Finished → IsSeated token
   over_seated stage.Looking kept e = absurd (true≢false (sym (ap is_finished_need (sym (ap (λ act. need_by act false) (looks_first read (tries_by p.book.script) is p.book.geometry)) ∙ e))))
   over_seated stage.Gathering kept e = absurd (never_finished (progress_of p) (sym (state_needs p (tries_by p.book.script) (job_of read) [] (Sequel.Serve point.0)) ∙ e))
   over_seated stage.Ending kept e = absurd (true≢false (sym (ap is_finished_need e)))
   over_seated stage.Ended kept e = kept.0
   over_seated stage.Finished kept e = kept
 
-  pub over_ended : (now : Stage) → Keeps now number (note_of read) token p → need_at_stage now ≡ need.Finished → (now ≡ stage.Finished → ⊥) → now ≡ stage.Ended
+  pub over_ended : (now : ReadStage) → Keeps now number (note_of read) token p → need_at_stage now ≡ need.Finished → (now ≡ stage.Finished → ⊥) → now ≡ stage.Ended
   over_ended stage.Looking kept e other = absurd (true≢false (sym (ap is_finished_need (sym (ap (λ act. need_by act false) (looks_first read (tries_by p.book.script) is p.book.geometry)) ∙ e))))
   over_ended stage.Gathering kept e other = absurd (never_finished (progress_of p) (sym (state_needs p (tries_by p.book.script) (job_of read) [] (Sequel.Serve point.0)) ∙ e))
   over_ended stage.Ending kept e other = absurd (true≢false (sym (ap is_finished_need e)))

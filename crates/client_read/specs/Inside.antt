@@ -11,8 +11,8 @@ use Rattle.client_read.specs.Reads.{ReadOf, is_read}
 use Rattle.call_steps.specs.Callers.{IsClient, IsWaiting}
 use Rattle.client_read.specs.Ends.{IsPlain}
 use Rattle.client_read.specs.Stages.{state_by, due_by}
-use Rattle.client_read.specs.declared.stage.Stage.{Stage}
-use Rattle.client_read.specs.declared.stage.Stage.TheVariants as stage
+use Rattle.client_read.specs.declared.stage.ReadStage.{ReadStage}
+use Rattle.client_read.specs.declared.stage.ReadStage.TheVariants as stage
 use Rattle.call_steps.specs.CallOf.{tries_by}
 use Rattle.client_read.specs.declared.read.ReadCall.TheInside.{Inside}
 
@@ -46,7 +46,7 @@ IsHolding number note (ActorToken.Seated seat) = ⊥
 IsHolding number note (ActorToken.InCall held) = IsOfCall number note held
 
 -- by its stage
-abbrev pub Keeps : Stage → ℕ → Note → ActorToken → GatheringsOf → Type 0
+abbrev pub Keeps : ReadStage → ℕ → Note → ActorToken → GatheringsOf → Type 0
 Keeps stage.Looking number note token p = IsWaiting number token
 Keeps stage.Gathering number note token p = IsHolding number note token
 Keeps stage.Ending number note token p = IsHolding number note token

@@ -8,7 +8,7 @@ ghost use Rattle.call_steps.specs.Ends.{is_ending};
 ghost use Rattle.client_read.specs.Owed.{owed_after};
 
 use crate::read::ReadCall;
-use crate::stage::{Looked, Stage, after_end, after_look};
+use crate::stage::{Looked, ReadStage, after_end, after_look};
 use call_steps::{DirectoryAnswer, Need, Outcome};
 use stripe_dir::{Directory, Ended};
 
@@ -27,7 +27,7 @@ impl<'a> ReadCall<'a> {
         ensures stamps { directory.new.stamps ≡ directory.old.stamps }
     {
         match self.stage {
-            Stage::Looking => self.look(directory),
+            ReadStage::Looking => self.look(directory),
             _ => self.end(directory),
         }
     }
@@ -83,7 +83,7 @@ impl<'a> ReadCall<'a> {
             }
             Ended::Reaped { at, .. } => {
                 self.outcome = Outcome::Reaped { at };
-                self.stage = Stage::Finished;
+                self.stage = ReadStage::Finished;
                 DirectoryAnswer::Reaped { at }
             }
         }

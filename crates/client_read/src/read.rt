@@ -17,7 +17,7 @@ ghost use Rattle.call_steps.specs.Ends.{finished_of};
 ghost use Rattle.client_read.specs.Reads.{is_read, first_read};
 ghost use Rattle.client_read.specs.Ends.{IfServed, AreBytes};
 
-use crate::stage::Stage;
+use crate::stage::ReadStage;
 use call_steps::{Act, DirectoryAct, Need, Outcome, ServerAnswer};
 use chunk_server::Server;
 use clay_model::Coder;
@@ -33,7 +33,7 @@ use version_seal::Opening;
 
 /// A client's get, read or stat in work. It has to be finished or abandoned.
 pub struct ReadCall<'a> {
-    pub(crate) stage: Stage,
+    pub(crate) stage: ReadStage,
     pub(crate) ticket: Ticket,
     pub(crate) call: &'a Call,
     pub(crate) number: u32,
@@ -86,7 +86,7 @@ impl<'a> ReadCall<'a> {
         ensures { result ≡ first_read opening seat number call.now }
     {
         ReadCall {
-            stage: Stage::Looking,
+            stage: ReadStage::Looking,
             ticket: Ticket::new(seat),
             call,
             number,
@@ -108,9 +108,9 @@ impl<'a> ReadCall<'a> {
         ensures below { IsServerBelow (chunk_count self.now.call.book.geometry) result }
     {
         match self.stage {
-            Stage::Looking | Stage::Ending => Need::Directory,
-            Stage::Gathering => self.gatherings.need(),
-            Stage::Ended | Stage::Finished => Need::Finished,
+            ReadStage::Looking | ReadStage::Ending => Need::Directory,
+            ReadStage::Gathering => self.gatherings.need(),
+            ReadStage::Ended | ReadStage::Finished => Need::Finished,
         }
     }
 
@@ -120,10 +120,10 @@ impl<'a> ReadCall<'a> {
         ensures { result ≡ act_now self.now.call }
     {
         match self.stage {
-            Stage::Looking => Act::Directory(DirectoryAct::Look),
-            Stage::Ending => Act::Directory(DirectoryAct::End),
-            Stage::Gathering => self.gatherings.act(DirectoryAct::End),
-            Stage::Ended | Stage::Finished => Act::Finished,
+            ReadStage::Looking => Act::Directory(DirectoryAct::Look),
+            ReadStage::Ending => Act::Directory(DirectoryAct::End),
+            ReadStage::Gathering => self.gatherings.act(DirectoryAct::End),
+            ReadStage::Ended | ReadStage::Finished => Act::Finished,
         }
     }
 
@@ -154,7 +154,7 @@ impl<'a> ReadCall<'a> {
             Err(_) => {
                 self.coding = true;
                 self.outcome = Outcome::NoMemory;
-                self.stage = Stage::Ending;
+                self.stage = ReadStage::Ending;
             }
         }
     }
@@ -195,7 +195,7 @@ impl<'a> ReadCall<'a> {
         } = self;
         let seat = ticket.into_seat();
         match stage {
-            Stage::Finished => (seat, outcome, gatherings.into_takes()),
+            ReadStage::Finished => (seat, outcome, gatherings.into_takes()),
             _ => {
                 let (gathered, takes) = gatherings.finish();
                 (seat, outcome_by(gathered, point), takes)

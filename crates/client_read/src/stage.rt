@@ -25,7 +25,7 @@ use stripe_dir::Look;
 
 /// What the call does next, or how it has ended.
 #[derive(Clone, Copy, PartialEq, Eq, Debug)]
-pub(crate) enum Stage {
+pub(crate) enum ReadStage {
     /// It looks next.
     Looking,
     /// It gathers the bytes of what was pinned, and ends its pass then.
@@ -40,7 +40,7 @@ pub(crate) enum Stage {
 
 // What a look leads to: the point of the bytes, or how the call has ended; and what it was told.
 pub(crate) struct Looked {
-    pub(crate) stage: Stage,
+    pub(crate) stage: ReadStage,
     pub(crate) point: Point,
     pub(crate) outcome: Outcome,
     pub(crate) told: DirectoryAnswer,
@@ -86,7 +86,7 @@ pub(crate) fn after_look(
 {
     match answer {
         Ok(Look::Answer { point, reply, .. }) => Looked {
-            stage: Stage::Finished,
+            stage: ReadStage::Finished,
             point,
             told: DirectoryAnswer::Answered {
                 point,
@@ -105,7 +105,7 @@ pub(crate) fn after_look(
             let (start, end) = range_of(call, length);
             gatherings.begin(stripes, start, end);
             Looked {
-                stage: Stage::Gathering,
+                stage: ReadStage::Gathering,
                 point,
                 told: DirectoryAnswer::Pinned { point, length },
                 outcome: Outcome::NoMemory,
@@ -113,7 +113,7 @@ pub(crate) fn after_look(
         }
         Ok(Look::Ready { .. }) => unreachable!(),
         Err(_) => Looked {
-            stage: Stage::Finished,
+            stage: ReadStage::Finished,
             point: Point(0),
             told: DirectoryAnswer::Short,
             outcome: Outcome::NoMemory,
@@ -122,11 +122,11 @@ pub(crate) fn after_look(
 }
 
 // Where the call goes on that has told the directory of the end of its pass.
-pub(crate) fn after_end(stage: Stage) -> Stage
+pub(crate) fn after_end(stage: ReadStage) -> ReadStage
     ensures { result ≡ after_end stage }
 {
     match stage {
-        Stage::Gathering => Stage::Ended,
-        _ => Stage::Finished,
+        ReadStage::Gathering => ReadStage::Ended,
+        _ => ReadStage::Finished,
     }
 }

@@ -10,7 +10,7 @@ use Rattle.call_steps.specs.Callers.{IsClient}
 use Rattle.call_steps.specs.Ends.{is_ending}
 use Rattle.client_read.specs.Stages.{state_by}
 use Rattle.client_read.specs.Inside.{Keeps, IsHolding}
-use Rattle.client_read.specs.declared.stage.Stage.{Stage}
+use Rattle.client_read.specs.declared.stage.ReadStage.{ReadStage}
 use Rattle.client_read.proofs.Standings.{ends_holding, ended_keeps}
 use Rattle.call_steps.specs.declared.answer.DirectoryAnswer.TheVariants as there
 use Rattle.call_steps.specs.Answers.{directory_answer}
@@ -31,7 +31,7 @@ invariant_of-self c =
       client = subst (λ token. IsClient (actor_of token)) (sym ended) (end_client a.ticket a.number (note_of a.call.now) holds c.self.invariant.client);
       plain = c.self.invariant.plain;
       kept =
-          subst (λ (s : Stage). Keeps s a.number (note_of a.call.now) c.end-answer.new.self a.gatherings) (sym c.after_end-self-inside.ensures)
+          subst (λ (s : ReadStage). Keeps s a.number (note_of a.call.now) c.end-answer.new.self a.gatherings) (sym c.after_end-self-inside.ensures)
           (ended_keeps a.call.now a.number a.ticket a.gatherings a.point a.outcome c.self.invariant.read c.end-answer.new.self a.stage c.self.invariant.kept ending
           (ap (λ (r : ReadOf). need_of r.call) c.self.view_is ∙ c.requires.need)
           (subst IsSeated (sym ended) (end_seated a.ticket a.number (note_of a.call.now) holds)));

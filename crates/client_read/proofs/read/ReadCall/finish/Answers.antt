@@ -9,7 +9,7 @@ use Rattle.client_read.specs.Reads.{ReadOf}
 use Rattle.client_read.specs.Ends.{IfServed}
 use Rattle.client_read.specs.Stages.{state_by}
 use Rattle.client_read.specs.Inside.{read_in}
-use Rattle.client_read.specs.declared.stage.Stage.TheVariants as stage
+use Rattle.client_read.specs.declared.stage.ReadStage.TheVariants as stage
 use Rattle.client_read.proofs.Standings.{over_seated, over_ended}
 use Rattle.client_read.proofs.Serving.{served_bytes}
 use Rattle.client_read.proofs.read.ReadCall.finish.Goals as goal

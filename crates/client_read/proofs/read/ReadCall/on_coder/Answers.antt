@@ -9,7 +9,7 @@ use Rattle.gather_parts.specs.States.{after_coding}
 use Rattle.client_read.specs.Reads.{ReadOf}
 use Rattle.client_read.specs.Stages.{state_by, due_by}
 use Rattle.client_read.specs.Inside.{read_in, Keeps}
-use Rattle.client_read.specs.declared.stage.Stage.TheVariants as stage
+use Rattle.client_read.specs.declared.stage.ReadStage.TheVariants as stage
 use Rattle.client_read.proofs.Standings.{gathering_stands, needs_gathering, is_coder_need}
 use Rattle.client_read.proofs.read.ReadCall.on_coder.Goals as goal
 
