@@ -25,8 +25,8 @@ use Rattle.client_patch.specs.Patches.{PatchOf, is_change, is_write}
 use Rattle.client_patch.specs.Stages.{state_by, due_by}
 use Rattle.client_patch.specs.Inside.{pairs_in, patch_in, Keeps, IsPatch}
 use Rattle.client_patch.specs.declared.patch.PatchCall.TheInside.{Inside}
-use Rattle.client_patch.specs.declared.stage.Stage.{Stage}
-use Rattle.client_patch.specs.declared.stage.Stage.TheVariants as stage
+use Rattle.client_patch.specs.declared.stage.PatchStage.{PatchStage}
+use Rattle.client_patch.specs.declared.stage.PatchStage.TheVariants as stage
 use Rattle.client_patch.proofs.Gathered.{EndsSo, ungathered_ends}
 use Rattle.client_patch.proofs.Standings.{gathers}
 
@@ -59,13 +59,13 @@ codes_by (CoreAct.AtServer server step) passes = refl
 codes_by (CoreAct.Finish outcome) passes = absurd (true≢false (sym passes))
 
 module _ (a : Inside) (p : PatchOf) (is : IsPatch a) (view : patch_in a ≡ p) where
-  abbrev pub act_in : Stage → CoreAct
+  abbrev pub act_in : PatchStage → CoreAct
   act_in now = act_at a.opening.geometry a.tries (job_of a.call.now) (pairs_in a.changes.items) (state_by now a.gatherings a.writing a.outcome)
 
-  pub seen_at : (now : Stage) → a.stage ≡ now → act_by (act_in now) (due_by now a.gatherings a.writing) ≡ act_now p.call
+  pub seen_at : (now : PatchStage) → a.stage ≡ now → act_by (act_in now) (due_by now a.gatherings a.writing) ≡ act_now p.call
   seen_at now at = ap (λ s. act_by (act_in s) (due_by s a.gatherings a.writing)) (sym at) ∙ ap (λ (x : PatchOf). act_now x.call) view
 
-  keeps : (now : Stage) → a.stage ≡ now → Keeps now a
+  keeps : (now : PatchStage) → a.stage ≡ now → Keeps now a
   keeps now at = subst (λ s. Keeps s a) at is.kept
 
   pairs_count : length (pairs_in a.changes.items) ≡ length a.changes.items

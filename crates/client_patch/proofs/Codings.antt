@@ -29,8 +29,8 @@ use Rattle.client_patch.specs.LookAfter.{IsFresh, IsBegun}
 use Rattle.client_patch.specs.Inside.{pairs_in, patch_in, Keeps, IsPatch}
 use Rattle.client_patch.specs.Holds.{HasRoom}
 use Rattle.client_patch.specs.declared.patch.PatchCall.TheInside.{Inside}
-use Rattle.client_patch.specs.declared.stage.Stage.{Stage}
-use Rattle.client_patch.specs.declared.stage.Stage.TheVariants as stage
+use Rattle.client_patch.specs.declared.stage.PatchStage.{PatchStage}
+use Rattle.client_patch.specs.declared.stage.PatchStage.TheVariants as stage
 use Rattle.write_course.proofs.Tokens.{short_has}
 use Rattle.write_course.proofs.AtServers.{codes}
 
@@ -77,7 +77,7 @@ module _ (a : Inside) (kept : IsPatch a) (old : PatchOf) (view : patch_in a ≡ 
   needs_here = ap (λ (p : PatchOf). need_of p.call) view ∙ needs
 
   -- a call that needs the coder then writes
-  writes_by : (s : Stage) → (s ≡ stage.Looked → ⊥) → (s ≡ stage.Gathering → ⊥)
+  writes_by : (s : PatchStage) → (s ≡ stage.Looked → ⊥) → (s ≡ stage.Gathering → ⊥)
       → need_by (act_at a.opening.geometry a.tries (job_of a.call.now) (pairs_in a.changes.items) (state_by s a.gatherings a.writing a.outcome)) (due_by s a.gatherings a.writing) ≡ need.Coder → s ≡ stage.Writing
   writes_by stage.Looked l g e = absurd (l refl)
   writes_by stage.Gathering l g e = absurd (g refl)

@@ -36,8 +36,8 @@ use Rattle.client_patch.specs.Inside.{pairs_in, patch_in, Keeps, IsPatch}
 use Rattle.write_course.specs.Holding.{IsHolding}
 use Rattle.client_patch.specs.Holds.{HasRoom}
 use Rattle.client_patch.specs.declared.patch.PatchCall.TheInside.{Inside}
-use Rattle.client_patch.specs.declared.stage.Stage.{Stage}
-use Rattle.client_patch.specs.declared.stage.Stage.TheVariants as stage
+use Rattle.client_patch.specs.declared.stage.PatchStage.{PatchStage}
+use Rattle.client_patch.specs.declared.stage.PatchStage.TheVariants as stage
 use Rattle.client_patch.proofs.OfWrites.{to_write}
 use Rattle.client_patch.proofs.Gathered.{EndsSo, ungathered_ends, gathering_gives}
 use Rattle.client_patch.proofs.Puts.{overtaken_writes}
@@ -52,7 +52,7 @@ module _ (a : Inside) (kept : IsPatch a) (old : PatchOf) (view : patch_in a ≡ 
   gathers_first : is_committing (state_in a.gatherings Sequel.Draw) ≡ false
   gathers_first = gathering_gives is_committing false (λ aim asking parts after. refl) refl (λ outcome. refl) a.gatherings
 
-  commits_by : (s : Stage) → Keeps s a → is_committing (state_by s a.gatherings a.writing a.outcome) ≡ true → s ≡ stage.Writing
+  commits_by : (s : PatchStage) → Keeps s a → is_committing (state_by s a.gatherings a.writing a.outcome) ≡ true → s ≡ stage.Writing
   commits_by stage.Looking k h = absurd (cc)
   commits_by stage.Looked k h = absurd (true≢false (sym h ∙ gathers_first))
   commits_by stage.Gathering k h = absurd (true≢false (sym h ∙ gathers_first))

@@ -46,8 +46,8 @@ use Rattle.client_patch.specs.Inside.{pairs_in, patch_in, Keeps, IsPatch}
 use Rattle.write_course.specs.Holding.{IsHolding, HasToken}
 use Rattle.client_patch.specs.Holds.{IsOfCall, PinsNothing, GathersNothing}
 use Rattle.client_patch.specs.declared.patch.PatchCall.TheInside.{Inside}
-use Rattle.client_patch.specs.declared.stage.Stage.{Stage}
-use Rattle.client_patch.specs.declared.stage.Stage.TheVariants as stage
+use Rattle.client_patch.specs.declared.stage.PatchStage.{PatchStage}
+use Rattle.client_patch.specs.declared.stage.PatchStage.TheVariants as stage
 use Rattle.client_patch.proofs.OfWrites.{put_or_write}
 use Rattle.client_patch.proofs.Puts.{old_of_nothing}
 use Rattle.client_patch.proofs.Gathered.{EndsSo, ungathered_ends}
@@ -116,7 +116,7 @@ module _ (a : Inside) (kept : IsPatch a) (old : PatchOf) (view : patch_in a ≡ 
   needs_here : need_of (patch_in a).call ≡ need.Directory
   needs_here = ap (λ (p : PatchOf). need_of p.call) view ∙ needs
 
-  draws_by : (s : Stage) → Keeps s a → state_by s a.gatherings a.writing a.outcome ≡ State.Drawing
+  draws_by : (s : PatchStage) → Keeps s a → state_by s a.gatherings a.writing a.outcome ≡ State.Drawing
       → need_by (act_at a.opening.geometry a.tries (job_of a.call.now) (pairs_in a.changes.items) (state_by s a.gatherings a.writing a.outcome)) (due_by s a.gatherings a.writing) ≡ need.Directory → s ≡ stage.Gathering
   draws_by stage.Looking k e n = absurd (cc)
   draws_by stage.Looked k e n = absurd (no_directory (act_at a.opening.geometry a.tries (job_of a.call.now) (pairs_in a.changes.items) (state_in a.gatherings Sequel.Draw)) n)

@@ -32,8 +32,8 @@ use Rattle.client_patch.specs.Inside.{pairs_in, patch_in, Keeps, IsPatch}
 use Rattle.write_course.specs.Holding.{IsPassing}
 use Rattle.client_patch.specs.Holds.{IsUngathered}
 use Rattle.client_patch.specs.declared.patch.PatchCall.TheInside.{Inside}
-use Rattle.client_patch.specs.declared.stage.Stage.{Stage}
-use Rattle.client_patch.specs.declared.stage.Stage.TheVariants as stage
+use Rattle.client_patch.specs.declared.stage.PatchStage.{PatchStage}
+use Rattle.client_patch.specs.declared.stage.PatchStage.TheVariants as stage
 use Rattle.client_patch.proofs.Gathered.{EndsSo, ungathered_ends}
 use Rattle.write_course.proofs.Tokens.{holds_to_end}
 use Rattle.write_course.proofs.AtDirectory.{directory_step, ending_next, ending_act}
@@ -108,7 +108,7 @@ module _ (a : Inside) (kept : IsPatch a) (old : PatchOf) (view : patch_in a ≡ 
       cc
 
   -- the ticket that ends
-  holding_by : (s : Stage) → Keeps s a → is_ending (state_by s a.gatherings a.writing a.outcome) ≡ true → IsPassing a.number (note_of a.call.now) a.ticket
+  holding_by : (s : PatchStage) → Keeps s a → is_ending (state_by s a.gatherings a.writing a.outcome) ≡ true → IsPassing a.number (note_of a.call.now) a.ticket
   holding_by stage.Looking k h = absurd (cc)
   holding_by stage.Looked k h = record { drawn = []; holding = k.0 }
   holding_by stage.Gathering k h = record { drawn = []; holding = k.0 }
@@ -122,9 +122,9 @@ module _ (a : Inside) (kept : IsPatch a) (old : PatchOf) (view : patch_in a ≡ 
   end_holding = holding_by a.stage kept.kept ends_here
 
   -- what is kept then
-  kept_by : (s : Stage) → Keeps s a → is_ending (state_by s a.gatherings a.writing a.outcome) ≡ true
+  kept_by : (s : PatchStage) → Keeps s a → is_ending (state_by s a.gatherings a.writing a.outcome) ≡ true
       → need_by (act_at a.opening.geometry a.tries (job_of a.call.now) (pairs_in a.changes.items) (state_by s a.gatherings a.writing a.outcome)) (due_by s a.gatherings a.writing) ≡ need.Directory
-      → (next : Stage) (token : ActorToken) (coding step : Bool) → IsSeated token → Keeps (after_end s) (record a { stage = next; ticket = token; coding = coding; step = step })
+      → (next : PatchStage) (token : ActorToken) (coding step : Bool) → IsSeated token → Keeps (after_end s) (record a { stage = next; ticket = token; coding = coding; step = step })
   kept_by stage.Looking k h n next token coding step seated = absurd (cc)
   kept_by stage.Looked k h n next token coding step seated = absurd (no_directory (act_at a.opening.geometry a.tries (job_of a.call.now) (pairs_in a.changes.items) (state_in a.gatherings Sequel.Draw)) n)
   kept_by stage.Gathering k h n next token coding step seated = (
@@ -138,11 +138,11 @@ module _ (a : Inside) (kept : IsPatch a) (old : PatchOf) (view : patch_in a ≡ 
   kept_by stage.Ending k h n next token coding step seated = seated
   kept_by stage.Finished k h n next token coding step seated = absurd (cc)
 
-  pub end_kept : (next : Stage) (token : ActorToken) (coding step : Bool) → IsSeated token → Keeps (after_end a.stage) (record a { stage = next; ticket = token; coding = coding; step = step })
+  pub end_kept : (next : PatchStage) (token : ActorToken) (coding step : Bool) → IsSeated token → Keeps (after_end a.stage) (record a { stage = next; ticket = token; coding = coding; step = step })
   end_kept = kept_by a.stage kept.kept ends_here needs_here
 
   -- where it stands then
-  state_then : (s : Stage) → Keeps s a → is_ending (state_by s a.gatherings a.writing a.outcome) ≡ true
+  state_then : (s : PatchStage) → Keeps s a → is_ending (state_by s a.gatherings a.writing a.outcome) ≡ true
       → need_by (act_at a.opening.geometry a.tries (job_of a.call.now) (pairs_in a.changes.items) (state_by s a.gatherings a.writing a.outcome)) (due_by s a.gatherings a.writing) ≡ need.Directory
       → state_by (after_end s) a.gatherings a.writing a.outcome ≡ finished_of (state_by s a.gatherings a.writing a.outcome)
   state_then stage.Looking k h n = absurd (cc)
@@ -154,7 +154,7 @@ module _ (a : Inside) (kept : IsPatch a) (old : PatchOf) (view : patch_in a ≡ 
   state_then stage.Ending k h n = refl
   state_then stage.Finished k h n = absurd (cc)
 
-  due_then : (s : Stage) → false ≡ due_by (after_end s) a.gatherings a.writing
+  due_then : (s : PatchStage) → false ≡ due_by (after_end s) a.gatherings a.writing
   due_then stage.Looking = refl
   due_then stage.Looked = refl
   due_then stage.Gathering = refl
@@ -164,7 +164,7 @@ module _ (a : Inside) (kept : IsPatch a) (old : PatchOf) (view : patch_in a ≡ 
   due_then stage.Ending = refl
   due_then stage.Finished = refl
 
-  pub end_step : (next : Stage) → next ≡ after_end a.stage → (token : ActorToken) (before after : Directory)
+  pub end_step : (next : PatchStage) → next ≡ after_end a.stage → (token : ActorToken) (before after : Directory)
       → (after, Told.Ended) ≡ at_directory false (actor_of a.ticket) a.number DirectoryStep.End before → token ≡ token_after a.ticket a.number DirectoryStep.End Told.Ended
       → (after, record ((patch_in a).call) { token = token; state = call_at (pairs_in a.changes.items) (state_by next a.gatherings a.writing a.outcome); due = due_by next a.gatherings a.writing; coding = false; step = false })
       ≡ stepped_at_directory false (due_by next a.gatherings a.writing) old.call before

@@ -48,8 +48,8 @@ use Rattle.client_patch.specs.Inside.{pairs_in, patch_in, Keeps, IsPatch}
 use Rattle.write_course.specs.Holding.{IsHolding, HasToken}
 use Rattle.client_patch.specs.Holds.{PinsNothing}
 use Rattle.client_patch.specs.declared.patch.PatchCall.TheInside.{Inside}
-use Rattle.client_patch.specs.declared.stage.Stage.{Stage}
-use Rattle.client_patch.specs.declared.stage.Stage.TheVariants as stage
+use Rattle.client_patch.specs.declared.stage.PatchStage.{PatchStage}
+use Rattle.client_patch.specs.declared.stage.PatchStage.TheVariants as stage
 use Rattle.write_course.proofs.AtDirectory.{directory_step}
 use Rattle.client_patch.proofs.OfWrites.{not_both}
 use Rattle.client_patch.proofs.Gathered.{EndsSo, ungathered_ends}
@@ -106,7 +106,7 @@ module _ (a : Inside) (kept : IsPatch a) (old : PatchOf) (view : patch_in a ≡ 
   no_pass : (drawn : List ℕ) → IsHolding a.number (note_of a.call.now) drawn a.ticket → ⊥
   no_pass drawn h = subst IsSeated h.is seated_here
 
-  waits_by : (s : Stage) → Keeps s a → state_by s a.gatherings a.writing a.outcome ≡ State.Start → IsWaiting a.number a.ticket
+  waits_by : (s : PatchStage) → Keeps s a → state_by s a.gatherings a.writing a.outcome ≡ State.Start → IsWaiting a.number a.ticket
   waits_by stage.Looking k e = k.0
   waits_by stage.Looked k e = absurd (no_pass [] k.0)
   waits_by stage.Gathering k e = absurd (no_pass [] k.0)

@@ -32,8 +32,8 @@ use Rattle.client_patch.specs.Patches.{PatchOf, is_drawing, is_change}
 use Rattle.client_patch.specs.Stages.{state_by, due_by}
 use Rattle.client_patch.specs.Inside.{pairs_in, patch_in, Keeps, IsPatch}
 use Rattle.client_patch.specs.declared.patch.PatchCall.TheInside.{Inside}
-use Rattle.client_patch.specs.declared.stage.Stage.{Stage}
-use Rattle.client_patch.specs.declared.stage.Stage.TheVariants as stage
+use Rattle.client_patch.specs.declared.stage.PatchStage.{PatchStage}
+use Rattle.client_patch.specs.declared.stage.PatchStage.TheVariants as stage
 use Rattle.client_patch.proofs.OfWrites.{to_write, writes_draw}
 use Rattle.client_patch.proofs.Gathered.{EndsSo, ungathered_ends}
 
@@ -62,7 +62,7 @@ may_look d (ActorToken.InCall held) number written is client waits = absurd wait
 
 module _ (a : Inside) (is : IsPatch a) (whole : HasWholeRows a.writing) where
   -- the call as it would stand at a stage
-  abbrev at_stage : Stage → CallOf
+  abbrev at_stage : PatchStage → CallOf
   at_stage now =
       record ((patch_in a).call) { state = record { pairs = pairs_in a.changes.items; at = state_by now a.gatherings a.writing a.outcome }; due = due_by now a.gatherings a.writing }
 
@@ -78,7 +78,7 @@ module _ (a : Inside) (is : IsPatch a) (whole : HasWholeRows a.writing) where
   looks waits (call.ReadAt name offset count) e patch = absurd (true≢false (sym patch))
   looks waits (call.Stat name) e patch = absurd (true≢false (sym patch))
 
-  gathers : (now : Stage) → (at_stage now).state.at ≡ state_in a.gatherings Sequel.Draw → IsHolding a.number (note_of a.call.now) [] a.ticket → is_drawing a.call.now ≡ true → MayBy (at_stage now) (act_of (at_stage now))
+  gathers : (now : PatchStage) → (at_stage now).state.at ≡ state_in a.gatherings Sequel.Draw → IsHolding a.number (note_of a.call.now) [] a.ticket → is_drawing a.call.now ≡ true → MayBy (at_stage now) (act_of (at_stage now))
   gathers now e h draws =
       subst (λ at. MayBy (at_stage now) (act_at a.opening.geometry a.tries (job_of a.call.now) (pairs_in a.changes.items) at)) (sym e)
       (subst (λ (book : BookOf). MayBy (at_stage now) (act_at book.geometry a.tries (job_of a.call.now) (pairs_in a.changes.items) (state_in a.gatherings Sequel.Draw))) is.book
@@ -86,7 +86,7 @@ module _ (a : Inside) (is : IsPatch a) (whole : HasWholeRows a.writing) where
       a.gatherings a.tries (job_of a.call.now) (pairs_in a.changes.items) Sequel.Draw
       (passes (at_stage now) h.held DirectoryStep.Draw h.is h.its_number (λ d shape. (to_write a.call.now h draws, h.its_drawn)))))
 
-  by_stage : (now : Stage) → Keeps now a → MayBy (at_stage now) (act_of (at_stage now))
+  by_stage : (now : PatchStage) → Keeps now a → MayBy (at_stage now) (act_of (at_stage now))
   by_stage stage.Looking kept = looks kept.0 a.call.now refl is.change
   by_stage stage.Looked kept = gathers stage.Looked refl kept.0 (writes_draw a.call.now kept.2)
   by_stage stage.Gathering kept = gathers stage.Gathering refl kept.0 kept.2

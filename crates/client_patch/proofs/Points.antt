@@ -6,11 +6,11 @@ use Rattle.call_steps.specs.Ends.{point_of, finished_of}
 use Rattle.client_patch.specs.Stages.{state_by}
 use Rattle.client_patch.specs.Inside.{Keeps}
 use Rattle.client_patch.specs.declared.patch.PatchCall.TheInside.{Inside}
-use Rattle.client_patch.specs.declared.stage.Stage.{Stage}
-use Rattle.client_patch.specs.declared.stage.Stage.TheVariants as stage
+use Rattle.client_patch.specs.declared.stage.PatchStage.{PatchStage}
+use Rattle.client_patch.specs.declared.stage.PatchStage.TheVariants as stage
 use Rattle.client_patch.proofs.Gathered.{EndsSo, ungathered_ends, gathering_pointless}
 
-pub no_point : (a : Inside) (s : Stage) → Keeps s a → (s ≡ stage.Writing → ⊥) → (s ≡ stage.Finished → ⊥) → None ≡ point_of (state_by s a.gatherings a.writing a.outcome)
+pub no_point : (a : Inside) (s : PatchStage) → Keeps s a → (s ≡ stage.Writing → ⊥) → (s ≡ stage.Finished → ⊥) → None ≡ point_of (state_by s a.gatherings a.writing a.outcome)
 no_point a stage.Looking k w f = refl
 no_point a stage.Looked k w f = gathering_pointless a.gatherings
 no_point a stage.Gathering k w f = gathering_pointless a.gatherings

@@ -37,8 +37,8 @@ use Rattle.client_patch.specs.Holds.{GathersNothing}
 use Rattle.client_patch.specs.Stages.{state_by}
 use Rattle.client_patch.specs.Inside.{pairs_in, patch_in, Keeps, IsPatch}
 use Rattle.client_patch.specs.declared.patch.PatchCall.TheInside.{Inside}
-use Rattle.client_patch.specs.declared.stage.Stage.{Stage}
-use Rattle.client_patch.specs.declared.stage.Stage.TheVariants as stage
+use Rattle.client_patch.specs.declared.stage.PatchStage.{PatchStage}
+use Rattle.client_patch.specs.declared.stage.PatchStage.TheVariants as stage
 use Rattle.client_patch.proofs.OfWrites.{put_kind, put_or_write, not_both}
 use Rattle.client_patch.proofs.Gathered.{EndsSo, ungathered_ends}
 
@@ -107,7 +107,7 @@ module _ (a : Inside) (put : is_put a.call.now ≡ true) where
   has_ends number note drawn token (State.Finished outcome) h end f = finished_ends outcome end f
   has_ends number note drawn token _ h end f = absurd h
 
-  ends_by : (s : Stage) → Keeps s a → EndsAt (state_by s a.gatherings a.writing a.outcome)
+  ends_by : (s : PatchStage) → Keeps s a → EndsAt (state_by s a.gatherings a.writing a.outcome)
   ends_by stage.Looking k end f = start_ends a.call.now put end f
   ends_by stage.Looked k end f = absurd (not_both a.call.now put k.2)
   ends_by stage.Gathering k end f = subst EndsAt (sym (nothing_stands a.gatherings (k.3 put).1)) drawing_ends end f

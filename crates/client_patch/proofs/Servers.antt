@@ -13,8 +13,8 @@ use Rattle.client_patch.specs.Stages.{state_by, due_by}
 use Rattle.call_steps.specs.Ends.{finished_of}
 use Rattle.client_patch.specs.Inside.{Keeps}
 use Rattle.client_patch.specs.declared.patch.PatchCall.TheInside.{Inside}
-use Rattle.client_patch.specs.declared.stage.Stage.{Stage}
-use Rattle.client_patch.specs.declared.stage.Stage.TheVariants as stage
+use Rattle.client_patch.specs.declared.stage.PatchStage.{PatchStage}
+use Rattle.client_patch.specs.declared.stage.PatchStage.TheVariants as stage
 use Rattle.client_patch.proofs.Gathered.{EndsSo, ungathered_ends}
 
 -- a look needs no server, nor the coder
@@ -45,7 +45,7 @@ no_server (Act.AtServer other step) server e = cc
 module _ (g : Shape) (tries : ℕ) (job : Job) (pairs : List (ℕ × ℕ)) where
   module _ (a : Inside) where
     -- a call that needs a server and doesn't gather writes
-    pub writes_at_server : (s : Stage) (server : ℕ) → Keeps s a → (s ≡ stage.Gathering → ⊥)
+    pub writes_at_server : (s : PatchStage) (server : ℕ) → Keeps s a → (s ≡ stage.Gathering → ⊥)
         → need_by (act_at g tries job pairs (state_by s a.gatherings a.writing a.outcome)) (due_by s a.gatherings a.writing) ≡ need.Server server → s ≡ stage.Writing
     writes_at_server stage.Looking server k other e = absurd (start_needs tries job pairs job.note.kind server e)
     writes_at_server stage.Looked server k other e = absurd (no_server (act_at g tries job pairs (state_in a.gatherings Sequel.Draw)) server e)

@@ -13,8 +13,8 @@ use Rattle.client_patch.specs.Patches.{PatchOf, is_write, is_put, is_drawing, is
 use Rattle.call_steps.specs.Callers.{IsClient, IsOfScript, IsWaiting}
 use Rattle.client_patch.specs.LookAfter.{IsFresh}
 use Rattle.client_patch.specs.Stages.{state_by, due_by}
-use Rattle.client_patch.specs.declared.stage.Stage.{Stage}
-use Rattle.client_patch.specs.declared.stage.Stage.TheVariants as stage
+use Rattle.client_patch.specs.declared.stage.PatchStage.{PatchStage}
+use Rattle.client_patch.specs.declared.stage.PatchStage.TheVariants as stage
 use Rattle.client_patch.specs.declared.patch.PatchCall.TheInside.{Inside}
 use Rattle.write_course.specs.Holding.{IsHolding, IsPassing, HasToken, IsGivenUp}
 use Rattle.client_patch.specs.Holds.{IsOfCall, IsUngathered, PinsNothing, GathersNothing, HasRoom}
@@ -45,7 +45,7 @@ patch_in a =
     }
 
 -- by its stage
-abbrev pub Keeps : Stage → Inside → Type 0
+abbrev pub Keeps : PatchStage → Inside → Type 0
 Keeps stage.Looking a = IsWaiting a.number a.ticket × ((is_write a.call.now ≡ true) ⊎ (a.changes.items ≡ []))
 Keeps stage.Looked a = IsHolding a.number (note_of a.call.now) [] a.ticket × IsFresh a.gatherings × (is_write a.call.now ≡ true)
 Keeps stage.Gathering a =

@@ -12,8 +12,8 @@ use Rattle.call_steps.specs.declared.seen.Seen.{Seen}
 use Rattle.stripe_dir.specs.declared.answers.Look.{Look}
 use Rattle.stripe_dir.specs.Shown.{stripes_seen}
 use Rattle.client_patch.specs.Patches.{is_put, is_drawing}
-use Rattle.client_patch.specs.declared.stage.Stage.{Stage}
-use Rattle.client_patch.specs.declared.stage.Stage.TheVariants as stage
+use Rattle.client_patch.specs.declared.stage.PatchStage.{PatchStage}
+use Rattle.client_patch.specs.declared.stage.PatchStage.TheVariants as stage
 
 -- gatherings of which nothing was asked yet
 abbrev pub IsFresh : GatheringsOf → Type 0
@@ -33,12 +33,12 @@ IsPatchLook written Told.Short = ⊤
 IsPatchLook written answer = ⊥
 
 -- where a call goes on that draws: a put at its draw, since it is told of no changes and gathers nothing
-abbrev pub to_draw : Call → Stage
+abbrev pub to_draw : Call → PatchStage
 to_draw (call.Put name content) = stage.Gathering
 to_draw _ = stage.Looked
 
 -- where it goes on after its look
-abbrev pub IsLooked : Call → Told → Stage → Type 0
+abbrev pub IsLooked : Call → Told → PatchStage → Type 0
 IsLooked written (Told.Ready base size stripes) next = next ≡ to_draw written
 IsLooked written answer next = next ≡ stage.Finished
 

@@ -9,7 +9,7 @@ ghost use Rattle.client_patch.specs.LookAfter.{IsFresh, IsBegun};
 
 use crate::bytes::{bytes_of, stripe_bytes};
 use crate::patch::PatchCall;
-use crate::stage::Stage;
+use crate::stage::PatchStage;
 use call_steps::{Change, Need, Outcome};
 use clay_grid::Geometry;
 use clay_model::Coder;
@@ -79,25 +79,25 @@ impl<'a> PatchCall<'a> {
         ensures knows { (d : Sealed) → KnowsOld d self.old → KnowsOld d self.new }
     {
         match self.stage {
-            Stage::Looked => {
+            PatchStage::Looked => {
                 match begin_gathering(rt, coder, &mut self.changes, &mut self.gatherings) {
                     Ok(()) => {
                         self.coding = false;
-                        self.stage = Stage::Gathering;
+                        self.stage = PatchStage::Gathering;
                     }
                     Err(_) => {
                         self.coding = true;
                         self.outcome = Outcome::NoMemory;
-                        self.stage = Stage::Ending;
+                        self.stage = PatchStage::Ending;
                     }
                 }
             }
-            Stage::Gathering => match self.gatherings.on_coder(rt, coder) {
+            PatchStage::Gathering => match self.gatherings.on_coder(rt, coder) {
                 Ok(()) => self.coding = false,
                 Err(_) => {
                     self.coding = true;
                     self.outcome = Outcome::NoMemory;
-                    self.stage = Stage::Ending;
+                    self.stage = PatchStage::Ending;
                 }
             },
             _ => {

@@ -14,7 +14,7 @@ ghost use Rattle.call_steps.specs.Ends.{is_ending};
 
 use crate::bytes::bytes_of;
 use crate::patch::PatchCall;
-use crate::stage::{Looked, Stage, after_end, after_look};
+use crate::stage::{Looked, PatchStage, after_end, after_look};
 use call_steps::{Change, DirectoryAnswer, Need, Outcome};
 use gather_parts::Progress;
 use stripe_dir::{Committed, Directory, Drawn, Ended};
@@ -61,11 +61,11 @@ impl<'a> PatchCall<'a> {
             ≡ stamps_after self.new.call.step directory.old self.old.call self.old.written }
     {
         match self.stage {
-            Stage::Looking => self.look(directory),
-            Stage::Gathering if matches!(self.gatherings.progress(), Progress::Done) => {
+            PatchStage::Looking => self.look(directory),
+            PatchStage::Gathering if matches!(self.gatherings.progress(), Progress::Done) => {
                 self.draw(directory, book)
             }
-            Stage::Writing if matches!(self.writing.doing(), WritingStage::Committing) => {
+            PatchStage::Writing if matches!(self.writing.doing(), WritingStage::Committing) => {
                 self.commit(directory)
             }
             _ => self.end(directory),
@@ -135,17 +135,17 @@ impl<'a> PatchCall<'a> {
                 let _length = content.length();
                 let first = offset / self.opening.geometry().stripe_len();
                 self.writing = Writing::new(self.alloc, self.opening.copy(), first, stamps);
-                self.stage = Stage::Writing;
+                self.stage = PatchStage::Writing;
                 DirectoryAnswer::Versions
             }
             Ok(Drawn::Reaped { at, .. }) => {
                 self.outcome = Outcome::Reaped { at };
-                self.stage = Stage::Finished;
+                self.stage = PatchStage::Finished;
                 DirectoryAnswer::Reaped { at }
             }
             Err(_) => {
                 self.outcome = Outcome::NoMemory;
-                self.stage = Stage::Ending;
+                self.stage = PatchStage::Ending;
                 DirectoryAnswer::Short
             }
         }
@@ -180,12 +180,12 @@ impl<'a> PatchCall<'a> {
                 ..
             } => {
                 self.changes.push_reserved(Change { looked_at, newer });
-                self.stage = Stage::Looking;
+                self.stage = PatchStage::Looking;
                 DirectoryAnswer::Changed { looked_at, newer }
             }
             Committed::Reaped { at, .. } => {
                 self.outcome = Outcome::Reaped { at };
-                self.stage = Stage::Finished;
+                self.stage = PatchStage::Finished;
                 DirectoryAnswer::Reaped { at }
             }
         }
@@ -215,7 +215,7 @@ impl<'a> PatchCall<'a> {
             }
             Ended::Reaped { at, .. } => {
                 self.outcome = Outcome::Reaped { at };
-                self.stage = Stage::Finished;
+                self.stage = PatchStage::Finished;
                 DirectoryAnswer::Reaped { at }
             }
         }

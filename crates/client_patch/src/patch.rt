@@ -21,7 +21,7 @@ ghost use Rattle.client_patch.specs.Holds.{IsUngathered};
 ghost use Rattle.client_patch.specs.Known.{KnowsOld};
 ghost use Rattle.client_patch.specs.Patches.{is_patch, is_put, is_change, first_patch};
 
-use crate::stage::Stage;
+use crate::stage::PatchStage;
 use call_steps::{Act, Change, DirectoryAct, Need, Outcome, ServerAnswer};
 use chunk_server::Server;
 use dir_tickets::Ticket;
@@ -37,7 +37,7 @@ use write_course::Writing;
 /// A client's write or delete in work, or its put. It has to be finished or abandoned.
 pub struct PatchCall<'a> {
     pub(crate) alloc: Global,
-    pub(crate) stage: Stage,
+    pub(crate) stage: PatchStage,
     pub(crate) ticket: Ticket,
     pub(crate) actor: Actor,
     pub(crate) call: &'a Call,
@@ -142,7 +142,7 @@ impl<'a> PatchCall<'a> {
         let writing = Writing::new(alloc, opening.copy(), 0, Vec::new(alloc));
         PatchCall {
             alloc,
-            stage: Stage::Looking,
+            stage: PatchStage::Looking,
             ticket: Ticket::new(seat),
             actor,
             call,
@@ -182,12 +182,12 @@ impl<'a> PatchCall<'a> {
         // That a commit has whole rows is needed below.
         self.writing.keeps();
         match self.stage {
-            Stage::Looking if self.changes.len() >= self.tries as usize => Need::Finished,
-            Stage::Looking | Stage::Ending => Need::Directory,
-            Stage::Looked => Need::Coder,
-            Stage::Gathering => self.gatherings.need(),
-            Stage::Writing => self.writing.need(),
-            Stage::Ungathered | Stage::GivenUp | Stage::Finished => Need::Finished,
+            PatchStage::Looking if self.changes.len() >= self.tries as usize => Need::Finished,
+            PatchStage::Looking | PatchStage::Ending => Need::Directory,
+            PatchStage::Looked => Need::Coder,
+            PatchStage::Gathering => self.gatherings.need(),
+            PatchStage::Writing => self.writing.need(),
+            PatchStage::Ungathered | PatchStage::GivenUp | PatchStage::Finished => Need::Finished,
         }
     }
 
@@ -197,13 +197,13 @@ impl<'a> PatchCall<'a> {
         ensures { result ≡ act_now self.now.call }
     {
         match self.stage {
-            Stage::Looking if self.changes.len() >= self.tries as usize => Act::Finished,
-            Stage::Looking => Act::Directory(DirectoryAct::Look),
-            Stage::Ending => Act::Directory(DirectoryAct::End),
-            Stage::Looked => Act::Coding,
-            Stage::Gathering => self.gatherings.act(DirectoryAct::Draw),
-            Stage::Writing => self.writing.act(),
-            Stage::Ungathered | Stage::GivenUp | Stage::Finished => Act::Finished,
+            PatchStage::Looking if self.changes.len() >= self.tries as usize => Act::Finished,
+            PatchStage::Looking => Act::Directory(DirectoryAct::Look),
+            PatchStage::Ending => Act::Directory(DirectoryAct::End),
+            PatchStage::Looked => Act::Coding,
+            PatchStage::Gathering => self.gatherings.act(DirectoryAct::Draw),
+            PatchStage::Writing => self.writing.act(),
+            PatchStage::Ungathered | PatchStage::GivenUp | PatchStage::Finished => Act::Finished,
         }
     }
 
@@ -220,7 +220,7 @@ impl<'a> PatchCall<'a> {
     {
         self.coding = false;
         match self.stage {
-            Stage::Gathering => {
+            PatchStage::Gathering => {
                 let answer = self.gatherings.on_server(s);
                 self.step = answer.is_err();
                 ServerAnswer::or_short(answer)
@@ -246,12 +246,12 @@ impl<'a> PatchCall<'a> {
         ensures { option_map (λ point. point.0) result ≡ point_of self.now.call.state.at }
     {
         match self.stage {
-            Stage::Writing => {
+            PatchStage::Writing => {
                 // How it has ended is needed below.
                 let _ = self.writing.doing();
                 self.writing.committed_at()
             }
-            Stage::Finished => point_of_outcome(&self.outcome),
+            PatchStage::Finished => point_of_outcome(&self.outcome),
             _ => None,
         }
     }
@@ -292,16 +292,16 @@ impl<'a> PatchCall<'a> {
         } = self;
         let seat = ticket.into_seat();
         match stage {
-            Stage::Looking => (
+            PatchStage::Looking => (
                 seat,
                 Outcome::Contended { changes },
                 gatherings.into_takes(),
             ),
-            Stage::Ungathered => {
+            PatchStage::Ungathered => {
                 let (outcome, takes) = outcome_of_gatherings(gatherings);
                 (seat, outcome, takes)
             }
-            Stage::Writing | Stage::GivenUp => {
+            PatchStage::Writing | PatchStage::GivenUp => {
                 (seat, writing.into_outcome(), gatherings.into_takes())
             }
             _ => (seat, outcome, gatherings.into_takes()),

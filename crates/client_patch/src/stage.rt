@@ -17,7 +17,7 @@ use stripe_dir::Look;
 
 /// What the call does next, or how it has ended.
 #[derive(Clone, Copy, PartialEq, Eq, Debug)]
-pub(crate) enum Stage {
+pub(crate) enum PatchStage {
     /// It looks next, or no try is left.
     Looking,
     /// What was pinned is to be gathered, once there is room for one change more.
@@ -38,19 +38,19 @@ pub(crate) enum Stage {
 
 // What a look leads to: the object's size, or how the call has ended; and what it was told.
 pub(crate) struct Looked {
-    pub(crate) stage: Stage,
+    pub(crate) stage: PatchStage,
     pub(crate) size: u64,
     pub(crate) outcome: Outcome,
     pub(crate) told: DirectoryAnswer,
 }
 
 // Where a call goes on that draws.
-fn to_draw(call: &Call) -> Stage
+fn to_draw(call: &Call) -> PatchStage
     ensures { result ≡ to_draw call.now }
 {
     match call {
-        Call::Put { .. } => Stage::Gathering,
-        _ => Stage::Looked,
+        Call::Put { .. } => PatchStage::Gathering,
+        _ => PatchStage::Looked,
     }
 }
 
@@ -73,7 +73,7 @@ pub(crate) fn after_look(
 {
     match answer {
         Ok(Look::Answer { point, reply, .. }) => Looked {
-            stage: Stage::Finished,
+            stage: PatchStage::Finished,
             size: 0,
             told: DirectoryAnswer::Answered {
                 point,
@@ -99,7 +99,7 @@ pub(crate) fn after_look(
         }
         Ok(Look::Pinned { .. }) => unreachable!(),
         Err(_) => Looked {
-            stage: Stage::Finished,
+            stage: PatchStage::Finished,
             size: 0,
             told: DirectoryAnswer::Short,
             outcome: Outcome::NoMemory,
@@ -108,12 +108,12 @@ pub(crate) fn after_look(
 }
 
 // Where the call goes on that has told the directory of the end of its pass.
-pub(crate) fn after_end(stage: Stage) -> Stage
+pub(crate) fn after_end(stage: PatchStage) -> PatchStage
     ensures { result ≡ after_end stage }
 {
     match stage {
-        Stage::Gathering => Stage::Ungathered,
-        Stage::Writing => Stage::GivenUp,
-        _ => Stage::Finished,
+        PatchStage::Gathering => PatchStage::Ungathered,
+        PatchStage::Writing => PatchStage::GivenUp,
+        _ => PatchStage::Finished,
     }
 }
