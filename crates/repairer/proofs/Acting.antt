@@ -16,8 +16,8 @@ use Rattle.call_steps.specs.declared.act.DirectoryAct.TheVariants as there
 use Rattle.call_steps.specs.declared.seen.Seen.{Seen}
 use Rattle.call_steps.specs.CallOf.{CallOf, act_of, tries_by}
 use Rattle.call_steps.specs.Acts.{act_by, act_now}
-use Rattle.repairer.specs.declared.stage.Stage.{Stage}
-use Rattle.repairer.specs.declared.stage.Stage.TheVariants as stage
+use Rattle.repairer.specs.declared.stage.RepairStage.{RepairStage}
+use Rattle.repairer.specs.declared.stage.RepairStage.TheVariants as stage
 use Rattle.repairer.specs.declared.repair_call.RepairCall.TheInside.{Inside}
 use Rattle.repairer.specs.Standing.{seen_at, gathered_state, course_at, stage_of}
 use Rattle.repairer.specs.Acting.{IsQuestion, AsksAs, install_act}
@@ -69,7 +69,7 @@ module _ (a : Inside) (c : CallOf) (is : IsRepair a) (view : call_in a ≡ c) wh
       ∙ ap act_now (seen_by a c stage.Installing view at)
 
   -- at the directory, and at the end
-  acts_at : (at : Stage) → a.stage ≡ at → a.due ≡ false → act_by (act_of (call_by at a)) false ≡ act_now c
+  acts_at : (at : RepairStage) → a.stage ≡ at → a.due ≡ false → act_by (act_of (call_by at a)) false ≡ act_now c
   acts_at at here due = ap (act_by (act_of (call_by at a))) (sym due) ∙ ap act_now (seen_by a c at view here)
 
   pub looks : a.stage ≡ stage.Start → a.due ≡ false → act.Directory there.LookRepair ≡ act_now c
@@ -92,7 +92,7 @@ module _ (a : Inside) (c : CallOf) (is : IsRepair a) (view : call_in a ≡ c) wh
   gathering_codes (State.Gather aim asking parts after) e = refl
   gathering_codes at e = absurd (cc)
 
-  codes_at : (at : Stage) → Keeps at a → a.due ≡ true → act.Coding ≡ act_by (act_of (call_by at a)) true
+  codes_at : (at : RepairStage) → Keeps at a → a.due ≡ true → act.Coding ≡ act_by (act_of (call_by at a)) true
   codes_at stage.Start kept due = absurd (true≢false (sym due ∙ kept.ready))
   codes_at stage.Gathering kept due = gathering_codes (state_at stage.Gathering a) (shown a stage.Gathering kept)
   codes_at stage.Confirming kept due = refl

@@ -13,7 +13,7 @@ use Rattle.gathering.specs.Gathers.{GatherOf, stepped, told_at, told_by}
 use Rattle.call_steps.specs.CallOf.{CallOf, act_of, tries_by}
 use Rattle.call_steps.specs.Hearing.{told_here_by, told_here}
 use Rattle.call_steps.specs.Steps.{need_of, stepped_at_server}
-use Rattle.repairer.specs.declared.stage.Stage.TheVariants as stage
+use Rattle.repairer.specs.declared.stage.RepairStage.TheVariants as stage
 use Rattle.repairer.specs.declared.repair_call.RepairCall.TheInside.{Inside}
 use Rattle.repairer.specs.Standing.{seen_at, course_at, gathered_state, stage_of}
 use Rattle.repairer.specs.Calls.{call_at}

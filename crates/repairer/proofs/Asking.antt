@@ -19,8 +19,8 @@ use Rattle.gathering.specs.Gathers.{GatherOf, taking, stepped_at, stepped, need_
 use Rattle.gathering.proofs.Taking.{takes_follow}
 use Rattle.call_steps.specs.CallOf.{CallOf}
 use Rattle.call_steps.specs.Steps.{stepped_at_server}
-use Rattle.repairer.specs.declared.stage.Stage.{Stage}
-use Rattle.repairer.specs.declared.stage.Stage.TheVariants as stage
+use Rattle.repairer.specs.declared.stage.RepairStage.{RepairStage}
+use Rattle.repairer.specs.declared.stage.RepairStage.TheVariants as stage
 use Rattle.repairer.specs.Standing.{gathered_state, state_by}
 use Rattle.repairer.specs.declared.repair_call.RepairCall.TheInside.{Inside}
 use Rattle.repairer.specs.Calls.{call_at}
@@ -112,7 +112,7 @@ follows w next takes counts short s after asks e = by w.course.stage refl asks
     by at is asks = absurd asks
 
 -- a call whose gathering hasn't ended without its bytes stands where that stands
-pub goes_on : (seen : CoreSeen) (target epoch : ℕ) (outcome : Outcome) (at : CoreStage) (s : Stage) → ending_at at ≡ None
+pub goes_on : (seen : CoreSeen) (target epoch : ℕ) (outcome : Outcome) (at : CoreStage) (s : RepairStage) → ending_at at ≡ None
     → s ≡ (if has_bytes at then stage.Confirming else stage.Gathering) → state_by s seen target at epoch outcome ≡ gathered_state seen target at
 goes_on seen target epoch outcome (CoreStage.Asks asking) s none e = ap (λ s. state_by s seen target (CoreStage.Asks asking) epoch outcome) e
 goes_on seen target epoch outcome CoreStage.HasBytes s none e = ap (λ s. state_by s seen target CoreStage.HasBytes epoch outcome) e
@@ -129,7 +129,7 @@ pub of_takes : (book : BookOf) (target : ℕ) (looked : Option Seen) (made : Opt
 of_takes book target looked made takes is = ap (λ (o : Option (List ℕ)). unwrap_or o takes) (sym is.is_takes)
 
 -- what it keeps then
-pub keeps_on : (a : Inside) (w : GatherOf) (takes : List ℕ) (s : Stage) → IsOfCall a.ticket a.number (note_of_rebuild a.rebuild.now)
+pub keeps_on : (a : Inside) (w : GatherOf) (takes : List ℕ) (s : RepairStage) → IsOfCall a.ticket a.number (note_of_rebuild a.rebuild.now)
     → (is : IsAsking a.opening a.rebuild.now.server a.looked.value (Some w) (Some takes)) (next : GatherOf) (counts : List ℕ) → Follows w next takes counts
     → ending_at next.course.stage ≡ None → s ≡ (if has_bytes next.course.stage then stage.Confirming else stage.Gathering)
     → a.gather ≡ Some next → a.takes ≡ Some counts → a.due ≡ has_bytes next.course.stage → Keeps s a

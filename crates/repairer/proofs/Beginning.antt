@@ -17,7 +17,7 @@ use Rattle.gathering.specs.Made.{Gives}
 use Rattle.call_steps.specs.declared.need.Need.TheVariants as need
 use Rattle.call_steps.specs.CallOf.{CallOf, act_of}
 use Rattle.call_steps.specs.Steps.{need_of}
-use Rattle.repairer.specs.declared.stage.Stage.TheVariants as stage
+use Rattle.repairer.specs.declared.stage.RepairStage.TheVariants as stage
 use Rattle.repairer.specs.declared.repair_call.RepairCall.TheInside.{Inside}
 use Rattle.repairer.specs.Moments.{IsSeen, IsAsking, IsGathered}
 use Rattle.repairer.specs.Kept.{ConfirmsAt, IsRepair}

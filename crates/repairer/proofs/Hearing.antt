@@ -20,8 +20,8 @@ use Rattle.call_steps.specs.CallOf.{CallOf, act_of}
 use Rattle.call_steps.specs.Answers.{directory_answer}
 use Rattle.call_steps.specs.Hearing.{told_there, told_here}
 use Rattle.call_steps.proofs.Telling.{there, by_act_there, by_act_here}
-use Rattle.repairer.specs.declared.stage.Stage.{Stage}
-use Rattle.repairer.specs.declared.stage.Stage.TheVariants as stage
+use Rattle.repairer.specs.declared.stage.RepairStage.{RepairStage}
+use Rattle.repairer.specs.declared.stage.RepairStage.TheVariants as stage
 use Rattle.repairer.specs.declared.repair_call.RepairCall.TheInside.{Inside}
 use Rattle.repairer.specs.Standing.{seen_at, stage_of}
 use Rattle.repairer.specs.Inside.{call_by, call_in}
@@ -31,7 +31,7 @@ use Rattle.repairer.proofs.Stages.{is_at, keeps, seen_by}
 
 module _ (a : Inside) (c : CallOf) (is : IsRepair a) (view : call_in a ≡ c) where
   -- at the directory
-  pub hears : (at : Stage) → stage_of c.state.at ≡ at → (d after : Directory) (short : Bool) (step : DirectoryStep) (told : Told) (answer : DirectoryAnswer)
+  pub hears : (at : RepairStage) → stage_of c.state.at ≡ at → (d after : Directory) (short : Bool) (step : DirectoryStep) (told : Told) (answer : DirectoryAnswer)
       → act_of (call_by at a) ≡ Act.AtDirectory step → (after, told) ≡ at_directory short (actor_of a.ticket) a.number step d
       → directory_answer told ≡ Some answer → directory_answer (told_there short c d) ≡ Some answer
   hears at e d after short step told answer act made tells =

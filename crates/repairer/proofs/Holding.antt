@@ -12,8 +12,8 @@ use Rattle.call_steps.specs.declared.need.Need.TheVariants as need
 use Rattle.call_steps.specs.TokenAfter.{IsSeated, IfInCall}
 use Rattle.call_steps.specs.CallOf.{CallOf}
 use Rattle.call_steps.specs.Steps.{need_by, HoldsItsPass}
-use Rattle.repairer.specs.declared.stage.Stage.{Stage}
-use Rattle.repairer.specs.declared.stage.Stage.TheVariants as stage
+use Rattle.repairer.specs.declared.stage.RepairStage.{RepairStage}
+use Rattle.repairer.specs.declared.stage.RepairStage.TheVariants as stage
 use Rattle.repairer.specs.declared.repair_call.RepairCall.TheInside.{Inside}
 use Rattle.repairer.specs.Standing.{stage_of}
 use Rattle.repairer.specs.Inside.{call_by, call_in}
@@ -22,7 +22,7 @@ use Rattle.repairer.specs.Kept.{Keeps, IsRepair}
 use Rattle.repairer.proofs.Stages.{shown}
 
 -- a stage in its pass
-abbrev IsIn : Stage → Type 0
+abbrev IsIn : RepairStage → Type 0
 IsIn stage.Start = ⊥
 IsIn stage.Finished = ⊥
 IsIn at = ⊤
@@ -67,7 +67,7 @@ starts : (token : ActorToken) (number : ℕ) (note : Note) → MayStart token nu
 starts (ActorToken.Seated seat) number note may = tt
 starts (ActorToken.InCall held) number note may = absurd may
 
-by_stage : (a : Inside) (at : Stage) → Keeps at a → HoldsItsPass (call_by at a)
+by_stage : (a : Inside) (at : RepairStage) → Keeps at a → HoldsItsPass (call_by at a)
 by_stage a stage.Start kept = seated (call_by stage.Start a) (starts a.ticket a.number (note_of_rebuild a.rebuild.now) kept.may)
 by_stage a stage.Gathering kept = in_pass (call_by stage.Gathering a) kept.0 (subst IsIn (sym (shown a stage.Gathering kept)) tt)
 by_stage a stage.Confirming kept = in_pass (call_by stage.Confirming a) kept.0 tt

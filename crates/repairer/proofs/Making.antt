@@ -11,8 +11,8 @@ use Rattle.call_steps.specs.TokenAfter.{MayMake}
 use Rattle.call_steps.specs.CallOf.{CallOf, act_of}
 use Rattle.call_steps.specs.Steps.{MayMakeNext, IsUndueOncePlaced}
 use Rattle.call_steps.proofs.Making.{MayBy, makes, passes}
-use Rattle.repairer.specs.declared.stage.Stage.{Stage}
-use Rattle.repairer.specs.declared.stage.Stage.TheVariants as stage
+use Rattle.repairer.specs.declared.stage.RepairStage.{RepairStage}
+use Rattle.repairer.specs.declared.stage.RepairStage.TheVariants as stage
 use Rattle.repairer.specs.declared.repair_call.RepairCall.TheInside.{Inside}
 use Rattle.repairer.specs.Standing.{stage_of}
 use Rattle.repairer.specs.Inside.{call_by, call_in}
@@ -45,7 +45,7 @@ gathers : (c : CallOf) (at : State) → c.state.at ≡ at → stage_of at ≡ st
 gathers c (State.Gather aim asking parts after) is e = subst (λ at. MayBy c (act_of_state c.book.geometry c.tries c.job (record { pairs = c.state.pairs; at = at }))) (sym is) tt
 gathers c at is e = absurd (cc)
 
-by_stage : (a : Inside) → a.rebuild.now.server < chunk_count a.opening.geometry → (at : Stage) → Keeps at a → MayBy (call_by at a) (act_of (call_by at a))
+by_stage : (a : Inside) → a.rebuild.now.server < chunk_count a.opening.geometry → (at : RepairStage) → Keeps at a → MayBy (call_by at a) (act_of (call_by at a))
 by_stage a below stage.Start kept = λ d shape. starts d a.ticket a.number (note_of_rebuild a.rebuild.now) kept.may
 by_stage a below stage.Gathering kept = gathers (call_by stage.Gathering a) ((call_by stage.Gathering a).state.at) refl (shown a stage.Gathering kept)
 by_stage a below stage.Confirming kept = (on_pass (call_by stage.Confirming a) a.rebuild.now.server refl below kept.0).0

@@ -8,8 +8,8 @@ use Rattle.gathering.specs.Courses.{IsAskingStage}
 use Rattle.gathering.specs.Gathers.{GatherOf}
 use Rattle.call_steps.specs.CallOf.{CallOf}
 use Rattle.call_steps.specs.Steps.{need_by}
-use Rattle.repairer.specs.declared.stage.Stage.{Stage}
-use Rattle.repairer.specs.declared.stage.Stage.TheVariants as stage
+use Rattle.repairer.specs.declared.stage.RepairStage.{RepairStage}
+use Rattle.repairer.specs.declared.stage.RepairStage.TheVariants as stage
 use Rattle.repairer.specs.declared.repair_call.RepairCall.TheInside.{Inside}
 use Rattle.repairer.specs.Standing.{seen_at, course_at, gathered_state, stage_of}
 use Rattle.repairer.specs.Inside.{state_at, call_by, call_in}
@@ -28,7 +28,7 @@ gathering a false kept =
     ∙ asking (seen_at a.looked.value) a.rebuild.now.server kept.gather.course.stage kept.asks
 
 -- callers see the stage
-pub shown : (a : Inside) (at : Stage) → Keeps at a → stage_of (state_at at a) ≡ at
+pub shown : (a : Inside) (at : RepairStage) → Keeps at a → stage_of (state_at at a) ≡ at
 shown a stage.Start kept = refl
 shown a stage.Gathering kept = gathering a a.due kept.1
 shown a stage.Confirming kept = refl
@@ -38,15 +38,15 @@ shown a stage.Ending kept = refl
 shown a stage.Finished kept = refl
 
 -- the stage that callers see is its own
-pub is_at : (a : Inside) (c : CallOf) (at : Stage) → IsRepair a → call_in a ≡ c → stage_of c.state.at ≡ at → a.stage ≡ at
+pub is_at : (a : Inside) (c : CallOf) (at : RepairStage) → IsRepair a → call_in a ≡ c → stage_of c.state.at ≡ at → a.stage ≡ at
 is_at a c at is view e = sym (shown a a.stage is.kept) ∙ ap (λ (call : CallOf). stage_of call.state.at) view ∙ e
 
 -- so callers see it at that stage
-pub seen_by : (a : Inside) (c : CallOf) (at : Stage) → call_in a ≡ c → a.stage ≡ at → call_by at a ≡ c
+pub seen_by : (a : Inside) (c : CallOf) (at : RepairStage) → call_in a ≡ c → a.stage ≡ at → call_by at a ≡ c
 seen_by a c at view e = sym (ap (λ s. call_by s a) e) ∙ view
 
 -- what it keeps there
-pub keeps : (a : Inside) (at : Stage) → IsRepair a → a.stage ≡ at → Keeps at a
+pub keeps : (a : Inside) (at : RepairStage) → IsRepair a → a.stage ≡ at → Keeps at a
 keeps a at is e = subst (λ s. Keeps s a) e is.kept
 
 -- a call that needs the coder has a coding due

@@ -3,8 +3,8 @@ use Rattle.std.specs.Prelude.{◌≡◌, ◌<◌, Bool, true, false}
 use Rattle.clay_grid.specs.Shape.{chunk_count}
 use Rattle.store_core.specs.Note.{note_of_rebuild}
 use Rattle.call_steps.specs.TokenAfter.{IsSeated}
-use Rattle.repairer.specs.declared.stage.Stage.{Stage}
-use Rattle.repairer.specs.declared.stage.Stage.TheVariants as stage
+use Rattle.repairer.specs.declared.stage.RepairStage.{RepairStage}
+use Rattle.repairer.specs.declared.stage.RepairStage.TheVariants as stage
 use Rattle.repairer.specs.declared.repair_call.RepairCall.TheInside.{Inside}
 use Rattle.repairer.specs.Parts.{IsOfCall}
 use Rattle.repairer.specs.Moments.{IsNew, IsSeen, IsAsking, IsGathered, IsMade}
@@ -20,7 +20,7 @@ ConfirmsAt true a = IsGathered a.opening a.rebuild.now.server a.looked.value a.g
 ConfirmsAt false a = IsMade a.opening a.rebuild.now.server a.looked.value a.chunk
 
 -- at a stage
-abbrev pub Keeps : Stage → Inside → Type 0
+abbrev pub Keeps : RepairStage → Inside → Type 0
 Keeps stage.Start a = IsNew a.ticket a.number a.rebuild.now a.gather a.takes a.due
 Keeps stage.Gathering a = IsOfCall a.ticket a.number (note_of_rebuild a.rebuild.now) × GathersAt a.due a
 Keeps stage.Confirming a = IsOfCall a.ticket a.number (note_of_rebuild a.rebuild.now) × ConfirmsAt a.due a

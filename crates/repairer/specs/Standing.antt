@@ -10,8 +10,8 @@ use Rattle.call_steps.specs.declared.seen.Seen.{Seen}
 use Rattle.stripe_stamps.specs.SeenStripes.{seen_in}
 use Rattle.gathering.specs.Courses.{CourseOf, new_course}
 use Rattle.gathering.specs.Gathers.{GatherOf}
-use Rattle.repairer.specs.declared.stage.Stage.{Stage}
-use Rattle.repairer.specs.declared.stage.Stage.TheVariants as stage
+use Rattle.repairer.specs.declared.stage.RepairStage.{RepairStage}
+use Rattle.repairer.specs.declared.stage.RepairStage.TheVariants as stage
 
 -- the pinned stripe, once it was seen
 abbrev pub seen_at : Option Seen → CoreSeen
@@ -28,7 +28,7 @@ abbrev pub gathered_state : CoreSeen → ℕ → CoreStage → State
 gathered_state seen target at = stage_state (State.Confirming seen target) (Aim.Chunk seen target) [] (Sequel.Confirm seen target) at
 
 -- by the stage: the pinned stripe, the server whose chunk is made, how far its gathering has come, the epoch at which it was placed, and the outcome
-abbrev pub state_by : Stage → CoreSeen → ℕ → CoreStage → ℕ → CoreOutcome → State
+abbrev pub state_by : RepairStage → CoreSeen → ℕ → CoreStage → ℕ → CoreOutcome → State
 state_by stage.Start seen target at epoch outcome = State.Start
 state_by stage.Gathering seen target at epoch outcome = gathered_state seen target at
 state_by stage.Confirming seen target at epoch outcome = State.Confirming seen target
@@ -38,7 +38,7 @@ state_by stage.Ending seen target at epoch outcome = State.Ending outcome
 state_by stage.Finished seen target at epoch outcome = State.Finished outcome
 
 -- the stage of a rebuild's state
-abbrev pub stage_of : State → Stage
+abbrev pub stage_of : State → RepairStage
 stage_of (State.Gather aim asking parts after) = stage.Gathering
 stage_of (State.Confirming seen target) = stage.Confirming
 stage_of (State.Installing seen target) = stage.Installing

@@ -11,7 +11,7 @@ ghost use Rattle.call_steps.specs.Steps.{need_of, LeadsTo};
 ghost use Rattle.repairer.specs.Standing.{stage_of};
 
 use crate::repair_call::RepairCall;
-use crate::stage::Stage;
+use crate::stage::RepairStage;
 use call_steps::{DirectoryAnswer, Need, RepairOutcome};
 use std::mem;
 use std::snapshot::Snapshot;
@@ -41,7 +41,7 @@ fn told_of(answer: &Ended<()>) -> DirectoryAnswer
 impl<'a> RepairCall<'a> {
     // Pins the stripe, if it is there.
     pub(crate) fn look(&mut self, d: &mut Directory) -> DirectoryAnswer
-        requires stage { stage_of self.old.state.at ≡ Stage.Start }
+        requires stage { stage_of self.old.state.at ≡ RepairStage.Start }
         requires need { need_of self.old ≡ Need.Directory }
         requires agrees { Agrees d.old.core self.old.token }
         requires book { d.old.book ≡ self.old.book }
@@ -64,18 +64,18 @@ impl<'a> RepairCall<'a> {
                 self.seen = Some(seen);
                 self.looked = Snapshot::of(&self.seen);
                 self.due = true;
-                self.stage = Stage::Gathering;
+                self.stage = RepairStage::Gathering;
                 DirectoryAnswer::PinnedStripe
             }
             Ok(RepairLook::NoSuch { .. }) => {
                 self.outcome = RepairOutcome::NoSuch;
-                self.stage = Stage::Finished;
+                self.stage = RepairStage::Finished;
                 DirectoryAnswer::NoSuch
             }
             Err(_) => {
                 self.step = true;
                 self.outcome = RepairOutcome::NoMemory;
-                self.stage = Stage::Finished;
+                self.stage = RepairStage::Finished;
                 DirectoryAnswer::Short
             }
         }
@@ -83,7 +83,7 @@ impl<'a> RepairCall<'a> {
 
     // Asks whether the version is current still.
     pub(crate) fn confirm(&mut self, d: &mut Directory) -> DirectoryAnswer
-        requires stage { stage_of self.old.state.at ≡ Stage.Confirming }
+        requires stage { stage_of self.old.state.at ≡ RepairStage.Confirming }
         requires need { need_of self.old ≡ Need.Directory }
         requires agrees { Agrees d.old.core self.old.token }
         requires book { d.old.book ≡ self.old.book }
@@ -98,17 +98,17 @@ impl<'a> RepairCall<'a> {
         self.step = false;
         match answer {
             Confirmed::Current { .. } => {
-                self.stage = Stage::Installing;
+                self.stage = RepairStage::Installing;
                 DirectoryAnswer::Current
             }
             Confirmed::Superseded { newer, .. } => {
                 self.outcome = RepairOutcome::Superseded { newer };
-                self.stage = Stage::Finished;
+                self.stage = RepairStage::Finished;
                 DirectoryAnswer::Superseded { newer }
             }
             Confirmed::Reaped { at, .. } => {
                 self.outcome = RepairOutcome::Reaped { at };
-                self.stage = Stage::Finished;
+                self.stage = RepairStage::Finished;
                 DirectoryAnswer::Reaped { at }
             }
         }
@@ -116,7 +116,7 @@ impl<'a> RepairCall<'a> {
 
     // Tells at which epoch the chunk was placed, which ends the pass.
     pub(crate) fn tell_placed(&mut self, d: &mut Directory) -> DirectoryAnswer
-        requires stage { stage_of self.old.state.at ≡ Stage.Placing }
+        requires stage { stage_of self.old.state.at ≡ RepairStage.Placing }
         requires agrees { Agrees d.old.core self.old.token }
         requires book { d.old.book ≡ self.old.book }
         ensures step { LeadsTo self.old d.old.core self.new d.new.core }
@@ -133,13 +133,13 @@ impl<'a> RepairCall<'a> {
         self.step = false;
         let told = told_of(&answer);
         self.outcome = ended_with(answer, RepairOutcome::Rebuilt);
-        self.stage = Stage::Finished;
+        self.stage = RepairStage::Finished;
         told
     }
 
     // Ends the pass of a call whose outcome is known.
     pub(crate) fn end(&mut self, d: &mut Directory) -> DirectoryAnswer
-        requires stage { stage_of self.old.state.at ≡ Stage.Ending }
+        requires stage { stage_of self.old.state.at ≡ RepairStage.Ending }
         requires agrees { Agrees d.old.core self.old.token }
         ensures step { LeadsTo self.old d.old.core self.new d.new.core }
         ensures told { IsToldThere result self.old d.old.core self.new }
@@ -153,7 +153,7 @@ impl<'a> RepairCall<'a> {
         let told = told_of(&answer);
         let outcome = mem::replace(&mut self.outcome, RepairOutcome::NoMemory);
         self.outcome = ended_with(answer, outcome);
-        self.stage = Stage::Finished;
+        self.stage = RepairStage::Finished;
         told
     }
 }

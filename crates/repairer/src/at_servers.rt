@@ -12,7 +12,7 @@ ghost use Rattle.call_steps.specs.Hearing.{IsToldHere};
 ghost use Rattle.repairer.specs.Standing.{stage_of};
 
 use crate::repair_call::RepairCall;
-use crate::stage::Stage;
+use crate::stage::RepairStage;
 use call_steps::{Need, RepairOutcome, ServerAnswer};
 use chunk_server::{Installed, Server};
 use gathering::{Ending, Gather};
@@ -36,20 +36,20 @@ fn outcome_of(ending: Ending, gather: Gather) -> RepairOutcome
 }
 
 // Where a call stands whose gathering hasn't ended without its bytes.
-fn stage_after(has_bytes: bool) -> Stage
-    ensures { result ≡ (if has_bytes then Stage.Confirming else Stage.Gathering) }
+fn stage_after(has_bytes: bool) -> RepairStage
+    ensures { result ≡ (if has_bytes then RepairStage.Confirming else RepairStage.Gathering) }
 {
     if has_bytes {
-        Stage::Confirming
+        RepairStage::Confirming
     } else {
-        Stage::Gathering
+        RepairStage::Gathering
     }
 }
 
 impl<'a> RepairCall<'a> {
     // The next question of the gathering.
     pub(crate) fn ask(&mut self, s: &mut Server) -> ServerAnswer
-        requires stage { stage_of self.old.state.at ≡ Stage.Gathering }
+        requires stage { stage_of self.old.state.at ≡ RepairStage.Gathering }
         requires need { need_of self.old ≡ Need.Server s.old.number }
         requires book { s.old.book ≡ self.old.book }
         ensures step { LeadsToAtServer self.old (core_of s.old) self.new (core_of s.new) }
@@ -68,7 +68,7 @@ impl<'a> RepairCall<'a> {
         match gather.course().ending() {
             Some(ending) => {
                 self.outcome = outcome_of(ending, gather);
-                self.stage = Stage::Ending;
+                self.stage = RepairStage::Ending;
                 ServerAnswer::or_short(answer)
             }
             None => {
@@ -81,7 +81,7 @@ impl<'a> RepairCall<'a> {
 
     // The chunk goes to its server.
     pub(crate) fn install(&mut self, s: &mut Server) -> ServerAnswer
-        requires stage { stage_of self.old.state.at ≡ Stage.Installing }
+        requires stage { stage_of self.old.state.at ≡ RepairStage.Installing }
         requires need { need_of self.old ≡ Need.Server s.old.number }
         requires book { s.old.book ≡ self.old.book }
         ensures step { LeadsToAtServer self.old (core_of s.old) self.new (core_of s.new) }
@@ -96,23 +96,23 @@ impl<'a> RepairCall<'a> {
         match s.install(chunk) {
             Ok(Installed::Placed { epoch }) => {
                 self.epoch = epoch;
-                self.stage = Stage::Placing;
+                self.stage = RepairStage::Placing;
                 ServerAnswer::Placed { epoch }
             }
             Ok(Installed::AlreadyThere) => {
                 self.outcome = RepairOutcome::Here;
-                self.stage = Stage::Ending;
+                self.stage = RepairStage::Ending;
                 ServerAnswer::AlreadyThere
             }
             Ok(Installed::Away { downs }) => {
                 self.outcome = RepairOutcome::Away { downs };
-                self.stage = Stage::Ending;
+                self.stage = RepairStage::Ending;
                 ServerAnswer::Away { downs }
             }
             Err(_) => {
                 self.step = true;
                 self.outcome = RepairOutcome::NoMemory;
-                self.stage = Stage::Ending;
+                self.stage = RepairStage::Ending;
                 ServerAnswer::Short
             }
         }

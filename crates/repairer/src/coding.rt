@@ -10,7 +10,7 @@ ghost use Rattle.repairer.specs.Parts.{IsPinned, IsChunkMade};
 ghost use Rattle.repairer.specs.Standing.{stage_of};
 
 use crate::repair_call::RepairCall;
-use crate::stage::Stage;
+use crate::stage::RepairStage;
 use call_steps::{Need, RepairOutcome};
 use clay_model::Coder;
 use gathering::Gather;
@@ -58,7 +58,7 @@ fn chunk_of<R: Threads + Sync, C: Coder>(
 impl<'a> RepairCall<'a> {
     // Makes the gathering.
     pub(crate) fn begin(&mut self)
-        requires stage { stage_of self.old.state.at ≡ Stage.Gathering }
+        requires stage { stage_of self.old.state.at ≡ RepairStage.Gathering }
         requires need { need_of self.old ≡ Need.Coder }
         ensures { self.new ≡ coded self.new.coding self.old }
     {
@@ -76,14 +76,14 @@ impl<'a> RepairCall<'a> {
             Err(_) => {
                 self.coding = true;
                 self.outcome = RepairOutcome::NoMemory;
-                self.stage = Stage::Ending;
+                self.stage = RepairStage::Ending;
             }
         }
     }
 
     // Makes the chunk.
     pub(crate) fn make<R: Threads + Sync, C: Coder>(&mut self, rt: &R, coder: &C)
-        requires stage { stage_of self.old.state.at ≡ Stage.Confirming }
+        requires stage { stage_of self.old.state.at ≡ RepairStage.Confirming }
         requires need { need_of self.old ≡ Need.Coder }
         ensures { self.new ≡ coded self.new.coding self.old }
     {
@@ -100,7 +100,7 @@ impl<'a> RepairCall<'a> {
             Err(_) => {
                 self.coding = true;
                 self.outcome = RepairOutcome::NoMemory;
-                self.stage = Stage::Ending;
+                self.stage = RepairStage::Ending;
             }
         }
     }

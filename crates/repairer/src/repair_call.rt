@@ -19,7 +19,7 @@ ghost use Rattle.gathering.specs.Courses.{IsAskingStage};
 ghost use Rattle.repairer.specs.Acting.{AsksAs, install_act};
 ghost use Rattle.repairer.specs.Inside.{takes_at};
 
-use crate::stage::Stage;
+use crate::stage::RepairStage;
 use call_steps::{
     Act, DirectoryAct, DirectoryAnswer, Need, RepairOutcome, ServerAct, ServerAnswer,
 };
@@ -41,7 +41,7 @@ use version_seal::{Opening, SealedChunk};
 /// question, and once all parts have come. Where it is wanting the call ends with
 /// [`RepairOutcome::NoMemory`].
 pub struct RepairCall<'a> {
-    pub(crate) stage: Stage,
+    pub(crate) stage: RepairStage,
     pub(crate) ticket: Ticket,
     pub(crate) rebuild: &'a Rebuild,
     pub(crate) number: u32,
@@ -86,7 +86,7 @@ impl<'a> RepairCall<'a> {
         ensures { result ≡ new_call opening call.now number seat }
     {
         RepairCall {
-            stage: Stage::Start,
+            stage: RepairStage::Start,
             ticket: Ticket::new(seat),
             rebuild: call,
             number,
@@ -118,12 +118,12 @@ impl<'a> RepairCall<'a> {
             return Need::Coder;
         }
         match self.stage {
-            Stage::Gathering => match &self.gather {
+            RepairStage::Gathering => match &self.gather {
                 Some(gather) => gather.need(),
                 None => unreachable!(),
             },
-            Stage::Installing => Need::Server(self.rebuild.server),
-            Stage::Finished => Need::Finished,
+            RepairStage::Installing => Need::Server(self.rebuild.server),
+            RepairStage::Finished => Need::Finished,
             _ => Need::Directory,
         }
     }
@@ -213,16 +213,16 @@ impl<'a> RepairCall<'a> {
             return Act::Coding;
         }
         match self.stage {
-            Stage::Start => Act::Directory(DirectoryAct::LookRepair),
-            Stage::Gathering => asks(&self.gather),
-            Stage::Confirming => Act::Directory(DirectoryAct::Confirm),
-            Stage::Installing => installs(&self.chunk, self.rebuild.server),
-            Stage::Placing => Act::Directory(DirectoryAct::Repaired {
+            RepairStage::Start => Act::Directory(DirectoryAct::LookRepair),
+            RepairStage::Gathering => asks(&self.gather),
+            RepairStage::Confirming => Act::Directory(DirectoryAct::Confirm),
+            RepairStage::Installing => installs(&self.chunk, self.rebuild.server),
+            RepairStage::Placing => Act::Directory(DirectoryAct::Repaired {
                 server: self.rebuild.server,
                 epoch: self.epoch,
             }),
-            Stage::Ending => Act::Directory(DirectoryAct::End),
-            Stage::Finished => Act::Finished,
+            RepairStage::Ending => Act::Directory(DirectoryAct::End),
+            RepairStage::Finished => Act::Finished,
         }
     }
 
@@ -239,10 +239,10 @@ impl<'a> RepairCall<'a> {
         ensures stamps { d.new.stamps ≡ d.old.stamps }
     {
         match self.stage {
-            Stage::Start => self.look(d),
-            Stage::Confirming => self.confirm(d),
-            Stage::Placing => self.tell_placed(d),
-            Stage::Ending => self.end(d),
+            RepairStage::Start => self.look(d),
+            RepairStage::Confirming => self.confirm(d),
+            RepairStage::Placing => self.tell_placed(d),
+            RepairStage::Ending => self.end(d),
             _ => unreachable!(),
         }
     }
@@ -257,8 +257,8 @@ impl<'a> RepairCall<'a> {
         ensures same { IsSame s.old s.new }
     {
         match self.stage {
-            Stage::Gathering => self.ask(s),
-            Stage::Installing => self.install(s),
+            RepairStage::Gathering => self.ask(s),
+            RepairStage::Installing => self.install(s),
             _ => unreachable!(),
         }
     }
@@ -270,8 +270,8 @@ impl<'a> RepairCall<'a> {
         ensures { self.new ≡ coded self.new.coding self.old }
     {
         match self.stage {
-            Stage::Gathering => self.begin(),
-            Stage::Confirming => self.make(rt, coder),
+            RepairStage::Gathering => self.begin(),
+            RepairStage::Confirming => self.make(rt, coder),
             _ => unreachable!(),
         }
     }

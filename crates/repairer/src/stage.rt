@@ -2,7 +2,7 @@
 
 /// Where a rebuild stands.
 #[derive(Clone, Copy, PartialEq, Eq, Debug)]
-pub(crate) enum Stage {
+pub(crate) enum RepairStage {
     /// The look is next.
     Start,
     /// What the chunk is made of is gathered.

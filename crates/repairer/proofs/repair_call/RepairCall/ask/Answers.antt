@@ -7,7 +7,7 @@ use Rattle.gathering.specs.Courses.{CourseOf, has_bytes}
 use Rattle.gathering.specs.Aims.{ending_at}
 use Rattle.gathering.specs.Gathers.{stepped, told_by}
 use Rattle.call_steps.specs.Outcomes.{repair_outcome_of}
-use Rattle.repairer.specs.declared.stage.Stage.TheVariants as stage
+use Rattle.repairer.specs.declared.stage.RepairStage.TheVariants as stage
 use Rattle.repairer.specs.Standing.{seen_at}
 use Rattle.repairer.specs.Calls.{call_at}
 use Rattle.repairer.proofs.Asking.{follows, goes_on, keeps_on}

@@ -5,8 +5,8 @@ use Rattle.stripe_stamps.specs.SeenStripes.{seen_in}
 use Rattle.gathering.specs.Gathers.{new_gather}
 use Rattle.call_steps.specs.CallOf.{CallOf, act_of}
 use Rattle.call_steps.specs.Steps.{coded}
-use Rattle.repairer.specs.declared.stage.Stage.{Stage}
-use Rattle.repairer.specs.declared.stage.Stage.TheVariants as stage
+use Rattle.repairer.specs.declared.stage.RepairStage.{RepairStage}
+use Rattle.repairer.specs.declared.stage.RepairStage.TheVariants as stage
 use Rattle.repairer.specs.Calls.{call_at}
 use Rattle.repairer.specs.Inside.{state_at}
 use Rattle.repairer.specs.Moments.{IsSeen}
@@ -26,7 +26,7 @@ invariant_of-self c =
     record {
       below = c.self.invariant.below;
       kept =
-          subst (λ (s : Stage). Keeps s (record a { seen = c.take.new.self; gather = Some c.in-Ok.gather; takes = Some c.in-Ok.takes; due = false; coding = false })) (sym at) (
+          subst (λ (s : RepairStage). Keeps s (record a { seen = c.take.new.self; gather = Some c.in-Ok.gather; takes = Some c.in-Ok.takes; due = false; coding = false })) (sym at) (
             kept.0,
             asks a.opening a.rebuild.now.server a.looked.value a.seen a.gather a.takes c.in-Ok.gather c.in-Ok.takes is
                 (c.in-Ok.ensures.gather ∙ ap (λ (seen : Seen). new_gather seen.stamp a.opening.geometry (Aim.Chunk (seen_in seen) a.rebuild.now.server)) same)
@@ -44,7 +44,7 @@ returns-in-Ok c =
     let same : c.in-Some.seen ≡ is.seen = ap (λ (o : Option Seen). unwrap_or o is.seen) (c.in-Some.ensures.value ∙ is.is_held) in
     let next = record a { seen = c.take.new.self; gather = Some c.in-Ok.gather; takes = Some c.in-Ok.takes; due = false; coding = false } in
     let stands_still : state_at a.stage next ≡ state_at a.stage a =
-    subst (λ (s : Stage). state_at s next ≡ state_at s a) (sym at)
+    subst (λ (s : RepairStage). state_at s next ≡ state_at s a) (sym at)
     (stands a.opening a.rebuild.now.server a.looked.value a.seen a.gather a.takes c.in-Ok.gather is
     (c.in-Ok.ensures.gather ∙ ap (λ (seen : Seen). new_gather seen.stamp a.opening.geometry (Aim.Chunk (seen_in seen) a.rebuild.now.server)) same))
     in

@@ -10,7 +10,7 @@ use Rattle.call_steps.specs.declared.answer.DirectoryAnswer.TheVariants as there
 use Rattle.call_steps.specs.Answers.{directory_answer}
 use Rattle.call_steps.specs.CallOf.{CallOf}
 use Rattle.call_steps.specs.Steps.{stepped_at_directory}
-use Rattle.repairer.specs.declared.stage.Stage.TheVariants as stage
+use Rattle.repairer.specs.declared.stage.RepairStage.TheVariants as stage
 use Rattle.repairer.specs.Standing.{seen_at}
 use Rattle.repairer.specs.Inside.{takes_at}
 use Rattle.repairer.proofs.Stages.{is_at, seen_by}

@@ -8,7 +8,7 @@ use Rattle.call_steps.specs.declared.outcomes.RepairOutcome.{RepairOutcome}
 use Rattle.call_steps.specs.CallOf.{CallOf}
 use Rattle.call_steps.specs.Outcomes.{repair_outcome_of}
 use Rattle.call_steps.specs.Steps.{stepped_at_directory}
-use Rattle.repairer.specs.declared.stage.Stage.TheVariants as stage
+use Rattle.repairer.specs.declared.stage.RepairStage.TheVariants as stage
 use Rattle.repairer.specs.Inside.{takes_at, call_by}
 use Rattle.repairer.proofs.Stages.{is_at, keeps, seen_by}
 use Rattle.repairer.proofs.Steps.{ended, end_seats}

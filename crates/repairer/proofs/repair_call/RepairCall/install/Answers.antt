@@ -9,7 +9,7 @@ use Rattle.chunk_server.specs.declared.answers.Installed.TheVariants as installe
 use Rattle.chunk_server.specs.Core.{core_of, told_installed}
 use Rattle.call_steps.specs.CallOf.{CallOf}
 use Rattle.call_steps.specs.Steps.{stepped_at_server}
-use Rattle.repairer.specs.declared.stage.Stage.TheVariants as stage
+use Rattle.repairer.specs.declared.stage.RepairStage.TheVariants as stage
 use Rattle.repairer.specs.Standing.{seen_at}
 use Rattle.repairer.specs.Inside.{takes_at}
 use Rattle.repairer.proofs.Stages.{is_at, seen_by}

@@ -13,7 +13,7 @@ use Rattle.call_steps.specs.declared.answer.DirectoryAnswer.TheVariants as there
 use Rattle.call_steps.specs.CallOf.{CallOf}
 use Rattle.call_steps.specs.TokenAfter.{token_after}
 use Rattle.stripe_dir.specs.Shown.{IsShown, AreShown, stripe_seen}
-use Rattle.repairer.specs.declared.stage.Stage.TheVariants as stage
+use Rattle.repairer.specs.declared.stage.RepairStage.TheVariants as stage
 use Rattle.repairer.specs.Moments.{IsNew}
 use Rattle.repairer.proofs.Stages.{is_at, keeps}
 use Rattle.repairer.proofs.Steps.{begun}

@@ -1,8 +1,8 @@
 use Rattle.std.proofs.Common.{false, Some, refl, sym, ap, subst, ◌∙◌}
 use Rattle.gathering.specs.Aims.{target_of}
 use Rattle.gathering.specs.Gathers.{GatherOf}
-use Rattle.repairer.specs.declared.stage.Stage.{Stage}
-use Rattle.repairer.specs.declared.stage.Stage.TheVariants as stage
+use Rattle.repairer.specs.declared.stage.RepairStage.{RepairStage}
+use Rattle.repairer.specs.declared.stage.RepairStage.TheVariants as stage
 use Rattle.repairer.specs.Moments.{IsGathered}
 use Rattle.repairer.specs.Kept.{Keeps}
 use Rattle.repairer.proofs.Stages.{is_at, keeps}
@@ -31,7 +31,7 @@ invariant_of-self g c =
     record {
       below = c.self.invariant.below;
       kept =
-          subst (λ (s : Stage). Keeps s (record a { gather = c.take.new.self; chunk = Some c.in-Ok.chunk; due = false; coding = false })) (sym at) (
+          subst (λ (s : RepairStage). Keeps s (record a { gather = c.take.new.self; chunk = Some c.in-Ok.chunk; due = false; coding = false })) (sym at) (
             (keeps a stage.Confirming c.self.invariant at).0,
             record {
               seen = is.seen;

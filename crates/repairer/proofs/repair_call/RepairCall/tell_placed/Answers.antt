@@ -1,7 +1,7 @@
 use Rattle.std.proofs.Common.{false, refl}
 use Rattle.store_core.specs.Act.{DirectoryStep}
 use Rattle.stripe_dir.specs.Answers.{told_ended}
-use Rattle.repairer.specs.declared.stage.Stage.TheVariants as stage
+use Rattle.repairer.specs.declared.stage.RepairStage.TheVariants as stage
 use Rattle.repairer.proofs.Hearing.{hears}
 use Rattle.repairer.proofs.repair_call.RepairCall.tell_placed.Goals as goal
 
