@@ -12,14 +12,14 @@ use Rattle.call_machine.specs.Calls.{MachineOf, patch_of, KnowsFor, KnowsOldOf}
 use Rattle.call_machine.specs.Ends.{IsEndOf}
 use Rattle.call_steps.specs.declared.outcome.CallOutcome.{CallOutcome}
 use Rattle.call_machine.specs.Inside.{asked_by, call_by, call_in, IsOfKind}
-use Rattle.call_machine.specs.declared.call_machine.Kind.{Kind}
-use Rattle.call_machine.specs.declared.call_machine.Kind.TheVariants as kind
+use Rattle.call_machine.specs.declared.call_machine.MachineKind.{MachineKind}
+use Rattle.call_machine.specs.declared.call_machine.MachineKind.TheVariants as kind
 use Rattle.call_machine.specs.declared.call_machine.CallMachine.TheInside.{Inside}
 
 -- a put has taken nothing
 pub took_nothing : (a : Inside) (c : MachineOf) (put : PutOf) (servers : ℕ) → call_in a ≡ c → a.kind ≡ kind.Put put → put.call.takes ≡ replicate {A = ℕ} servers 0 → None ≡ taken_of c.call.takes
 took_nothing a c put servers view is nothing =
-    sym (none_taken servers) ∙ ap taken_of (sym nothing ∙ ap (λ (k : Kind). (call_by k (asked_by a.task)).call.takes) (sym is) ∙ ap (λ (v : MachineOf). v.call.takes) view)
+    sym (none_taken servers) ∙ ap taken_of (sym nothing ∙ ap (λ (k : MachineKind). (call_by k (asked_by a.task)).call.takes) (sym is) ∙ ap (λ (v : MachineOf). v.call.takes) view)
 
 -- what a machine that neither writes nor deletes need not know
 pub others_know : (d : Sealed) (c : MachineOf) (asked : Asked) (m : Machine) → machine_of asked ≡ m → IfPatches m ⊥ → KnowsFor asked d c
@@ -43,15 +43,15 @@ knows_as d patch next its same knows was =
 pub patch_knows : (d : Sealed) (a : Inside) (c : MachineOf) (patch next : PatchOf) → call_in a ≡ c → a.kind ≡ kind.Patch patch → IsOfKind a.kind (asked_by a.task) → next.written ≡ patch.written
     → (KnowsOld d patch → KnowsOld d next) → KnowsOldOf d c → KnowsOldOf d (call_by (kind.Patch next) (asked_by a.task))
 patch_knows d a c patch next view is of_kind same knows holds =
-    let its : IsOfKind (kind.Patch patch) (asked_by a.task) = subst (λ (k : Kind). IsOfKind k (asked_by a.task)) is of_kind in
-    let was : KnowsOldOf d (call_by (kind.Patch patch) (asked_by a.task)) = subst (λ (k : Kind). KnowsOldOf d (call_by k (asked_by a.task))) is (subst (KnowsOldOf d) (sym view) holds) in
+    let its : IsOfKind (kind.Patch patch) (asked_by a.task) = subst (λ (k : MachineKind). IsOfKind k (asked_by a.task)) is of_kind in
+    let was : KnowsOldOf d (call_by (kind.Patch patch) (asked_by a.task)) = subst (λ (k : MachineKind). KnowsOldOf d (call_by k (asked_by a.task))) is (subst (KnowsOldOf d) (sym view) holds) in
     let old : KnowsFor (Asked.OfClient patch.written) d (call_by (kind.Patch patch) (Asked.OfClient patch.written)) =
     subst (λ (w : Asked). KnowsFor w d (call_by (kind.Patch patch) w)) (sym its.1) was in
     let machine : client_machine patch.written ≡ Machine.Patches = ap machine_of its.1 ∙ its.0 in
     subst (λ (w : Asked). KnowsFor w d (call_by (kind.Patch next) w)) its.1 (knows_as d patch next machine same knows old)
 
 -- what is asked, whatever machine makes it
-asked_is : (k : Kind) (asked : Asked) → (call_by k asked).asked ≡ asked
+asked_is : (k : MachineKind) (asked : Asked) → (call_by k asked).asked ≡ asked
 asked_is (kind.Read read) asked = refl
 asked_is (kind.Put put) asked = refl
 asked_is (kind.Patch patch) asked = refl

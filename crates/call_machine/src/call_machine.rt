@@ -36,7 +36,7 @@ use stripe_dir::{Directory, Seat};
 use version_seal::{Book, Opening};
 
 // The machine of its kind.
-enum Kind<'a> {
+enum MachineKind<'a> {
     Read(ReadCall<'a>),
     Put(PutCall<'a>),
     Patch(PatchCall<'a>),
@@ -52,7 +52,7 @@ enum Task<'a> {
 
 /// A call in work, of a client or of a repairer. It has to be finished or abandoned.
 pub struct CallMachine<'a> {
-    kind: Kind<'a>,
+    kind: MachineKind<'a>,
     task: Task<'a>,
 }
 
@@ -93,21 +93,21 @@ impl<'a> CallMachine<'a> {
             Call::Put { .. } => {
                 let put = PutCall::new(alloc, seat, actor, number, call, opening);
                 CallMachine {
-                    kind: Kind::Put(put),
+                    kind: MachineKind::Put(put),
                     task,
                 }
             }
             Call::Write { .. } | Call::Delete { .. } => {
                 let patch = PatchCall::new(alloc, seat, actor, number, call, opening, tries);
                 CallMachine {
-                    kind: Kind::Patch(patch),
+                    kind: MachineKind::Patch(patch),
                     task,
                 }
             }
             _ => {
                 let read = ReadCall::new(alloc, seat, number, call, opening);
                 CallMachine {
-                    kind: Kind::Read(read),
+                    kind: MachineKind::Read(read),
                     task,
                 }
             }
@@ -130,7 +130,7 @@ impl<'a> CallMachine<'a> {
     {
         let call = RepairCall::new(seat, number, rebuild, opening);
         CallMachine {
-            kind: Kind::Rebuild(call),
+            kind: MachineKind::Rebuild(call),
             task: Task::Rebuild(rebuild),
         }
     }
@@ -145,10 +145,10 @@ impl<'a> CallMachine<'a> {
         ensures below { IsServerBelow (chunk_count self.now.call.book.geometry) result }
     {
         match &self.kind {
-            Kind::Read(read) => read.need(),
-            Kind::Put(put) => put.need(),
-            Kind::Patch(patch) => patch.need(),
-            Kind::Rebuild(rebuild) => rebuild.need(),
+            MachineKind::Read(read) => read.need(),
+            MachineKind::Put(put) => put.need(),
+            MachineKind::Patch(patch) => patch.need(),
+            MachineKind::Rebuild(rebuild) => rebuild.need(),
         }
     }
 
@@ -157,10 +157,10 @@ impl<'a> CallMachine<'a> {
         ensures { result ≡ act_now self.now.call }
     {
         match &self.kind {
-            Kind::Read(read) => read.act(),
-            Kind::Put(put) => put.act(),
-            Kind::Patch(patch) => patch.act(),
-            Kind::Rebuild(rebuild) => rebuild.act(),
+            MachineKind::Read(read) => read.act(),
+            MachineKind::Put(put) => put.act(),
+            MachineKind::Patch(patch) => patch.act(),
+            MachineKind::Rebuild(rebuild) => rebuild.act(),
         }
     }
 
@@ -185,10 +185,10 @@ impl<'a> CallMachine<'a> {
             ≡ directory.old.stamps ++ drawn_by self.new.call.step directory.old self.old }
     {
         match &mut self.kind {
-            Kind::Read(read) => read.on_directory(directory),
-            Kind::Put(put) => put.on_directory(directory, book),
-            Kind::Patch(patch) => patch.on_directory(directory, book),
-            Kind::Rebuild(rebuild) => rebuild.on_directory(directory),
+            MachineKind::Read(read) => read.on_directory(directory),
+            MachineKind::Put(put) => put.on_directory(directory, book),
+            MachineKind::Patch(patch) => patch.on_directory(directory, book),
+            MachineKind::Rebuild(rebuild) => rebuild.on_directory(directory),
         }
     }
 
@@ -204,10 +204,10 @@ impl<'a> CallMachine<'a> {
         ensures same { IsSame s.old s.new }
     {
         match &mut self.kind {
-            Kind::Read(read) => read.on_server(s),
-            Kind::Put(put) => put.on_server(s),
-            Kind::Patch(patch) => patch.on_server(s),
-            Kind::Rebuild(rebuild) => rebuild.on_server(s),
+            MachineKind::Read(read) => read.on_server(s),
+            MachineKind::Put(put) => put.on_server(s),
+            MachineKind::Patch(patch) => patch.on_server(s),
+            MachineKind::Rebuild(rebuild) => rebuild.on_server(s),
         }
     }
 
@@ -223,10 +223,10 @@ impl<'a> CallMachine<'a> {
         ensures owed { self.new.call.coding ≡ false → self.new.owed ≡ self.old.owed }
     {
         match &mut self.kind {
-            Kind::Read(read) => read.on_coder(rt, coder),
-            Kind::Put(put) => put.on_coder(rt, coder),
-            Kind::Patch(patch) => patch.on_coder(rt, coder),
-            Kind::Rebuild(rebuild) => rebuild.on_coder(rt, coder),
+            MachineKind::Read(read) => read.on_coder(rt, coder),
+            MachineKind::Put(put) => put.on_coder(rt, coder),
+            MachineKind::Patch(patch) => patch.on_coder(rt, coder),
+            MachineKind::Rebuild(rebuild) => rebuild.on_coder(rt, coder),
         }
     }
 
@@ -235,10 +235,10 @@ impl<'a> CallMachine<'a> {
         ensures { result ≡ self.now.call.coding }
     {
         match &self.kind {
-            Kind::Read(read) => read.coding_was_short(),
-            Kind::Put(put) => put.coding_was_short(),
-            Kind::Patch(patch) => patch.coding_was_short(),
-            Kind::Rebuild(rebuild) => rebuild.coding_was_short(),
+            MachineKind::Read(read) => read.coding_was_short(),
+            MachineKind::Put(put) => put.coding_was_short(),
+            MachineKind::Patch(patch) => patch.coding_was_short(),
+            MachineKind::Rebuild(rebuild) => rebuild.coding_was_short(),
         }
     }
 
@@ -248,10 +248,10 @@ impl<'a> CallMachine<'a> {
         ensures nothing { IfPuts (machine_of self.now.asked) (HasTakenNothing self.now.call) }
     {
         match &self.kind {
-            Kind::Read(read) => read.takes(),
-            Kind::Put(put) => put.takes(),
-            Kind::Patch(patch) => patch.takes(),
-            Kind::Rebuild(rebuild) => rebuild.takes(),
+            MachineKind::Read(read) => read.takes(),
+            MachineKind::Put(put) => put.takes(),
+            MachineKind::Patch(patch) => patch.takes(),
+            MachineKind::Rebuild(rebuild) => rebuild.takes(),
         }
     }
 
@@ -268,19 +268,19 @@ impl<'a> CallMachine<'a> {
     {
         let CallMachine { kind, task: _ } = self;
         match kind {
-            Kind::Read(read) => {
+            MachineKind::Read(read) => {
                 let (seat, outcome, takes) = read.finish();
                 (seat, CallOutcome::Client(outcome), takes)
             }
-            Kind::Put(put) => {
+            MachineKind::Put(put) => {
                 let (seat, outcome, takes) = put.finish();
                 (seat, CallOutcome::Client(outcome), takes)
             }
-            Kind::Patch(patch) => {
+            MachineKind::Patch(patch) => {
                 let (seat, outcome, takes) = patch.finish();
                 (seat, CallOutcome::Client(outcome), takes)
             }
-            Kind::Rebuild(rebuild) => {
+            MachineKind::Rebuild(rebuild) => {
                 let (seat, outcome, takes) = rebuild.finish();
                 (seat, CallOutcome::Rebuild(outcome), takes)
             }
@@ -294,15 +294,15 @@ impl<'a> CallMachine<'a> {
     {
         let CallMachine { kind, task: _ } = self;
         match kind {
-            Kind::Read(read) => read.abandon(),
-            Kind::Put(put) => {
+            MachineKind::Read(read) => read.abandon(),
+            MachineKind::Put(put) => {
                 // That it has taken nothing is needed below.
                 let _ = put.takes();
                 put.leave();
                 None
             }
-            Kind::Patch(patch) => patch.abandon(),
-            Kind::Rebuild(rebuild) => rebuild.abandon(),
+            MachineKind::Patch(patch) => patch.abandon(),
+            MachineKind::Rebuild(rebuild) => rebuild.abandon(),
         }
     }
 }

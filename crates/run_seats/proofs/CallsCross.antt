@@ -24,7 +24,7 @@ use Rattle.client_patch.specs.contracts.patch.PatchCall.TheInside as patch_insid
 use Rattle.client_patch.specs.contracts.patch.PatchCall as patch
 use Rattle.repairer.specs.contracts.repair_call.RepairCall.TheInside as repair_inside
 use Rattle.repairer.specs.contracts.repair_call.RepairCall as repair
-use Rattle.call_machine.specs.contracts.call_machine.Kind as kind
+use Rattle.call_machine.specs.contracts.call_machine.MachineKind as kind
 use Rattle.call_machine.specs.contracts.call_machine.Task as task
 use Rattle.call_machine.specs.contracts.call_machine.CallMachine.TheInside as machine_inside
 use Rattle.call_machine.specs.contracts.call_machine.CallMachine as machine
