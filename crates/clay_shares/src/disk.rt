@@ -2,7 +2,9 @@
 
 use clay_bytes::{Failed, StdSink};
 use file_bytes::StdFile;
-use share_run::{FillLog, Place, Places, Progress, ShareStatus, ToldFile, ends, ends_short, fails};
+use share_run::{
+    FilePlace, FilePlaces, FillLog, Progress, ShareStatus, ToldFile, ends, ends_short, fails,
+};
 use std::alloc::Global;
 use std::fs::{self, File};
 use std::io::{self, Eprint, ErrorKind};
@@ -125,7 +127,7 @@ fn fill_place<R: Files<File = File> + Eprint>(
     }
 }
 
-impl<'a, R: Files<File = File> + Eprint> Places<StdFile<ToldFile<'a, R>>> for StdPlaces<'a, R> {
+impl<'a, R: Files<File = File> + Eprint> FilePlaces<StdFile<ToldFile<'a, R>>> for StdPlaces<'a, R> {
     ghost filled_in = { λ s. s.log };
 
     ghost faults = { λ s. s.faults };
@@ -144,7 +146,7 @@ impl<'a, R: Files<File = File> + Eprint> Places<StdFile<ToldFile<'a, R>>> for St
     }
 }
 
-impl<'a, R: Files<File = File> + Eprint> Place<StdSink<ToldFile<'a, R>>> for StdPlaces<'a, R> {
+impl<'a, R: Files<File = File> + Eprint> FilePlace<StdSink<ToldFile<'a, R>>> for StdPlaces<'a, R> {
     ghost filled_in = { λ s. s.log };
 
     ghost faults = { λ s. s.faults };

@@ -8,7 +8,7 @@ use Rattle.share_format.specs.Blocks.{block_length}
 use Rattle.share_format.specs.Shares.{block_start}
 use Rattle.share_mends.specs.Places.{places_in}
 use Rattle.share_mends.specs.declared.spans.Span.{Span}
-use Rattle.share_mends.specs.declared.spans.Plan.{Plan}
+use Rattle.share_mends.specs.declared.spans.MendPlan.{MendPlan}
 
 -- a span of the block that begins at a place
 abbrev pub range_at : ℕ → Span → Range
@@ -40,7 +40,7 @@ pub record AreShort (place : ℕ) (spans : List Span) (file : List ℕ) : Type 0
   pub short : IsShort place span file
 
 -- the layers of a repair of the lost share's chunk, and the spans of a block that have them
-pub record IsPlan (plan : Plan) : Type 0 where
+pub record IsMendPlan (plan : MendPlan) : Type 0 where
   pub aloof : IsAloof plan.geometry
   pub lost : plan.lost < all_chunks plan.geometry
   pub layers : plan.layers.items ≡ aloof_layers_of plan.geometry plan.lost

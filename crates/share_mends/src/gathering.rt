@@ -7,14 +7,14 @@ ghost use Rattle.share_format.specs.Blocks.{block_length};
 ghost use Rattle.share_format.specs.Mend.{block_ranges};
 ghost use Rattle.share_format.specs.Shares.{block_start};
 ghost use Rattle.share_files.specs.Seen.{seen, Show};
-ghost use Rattle.share_mends.specs.Spans.{IsPlan};
+ghost use Rattle.share_mends.specs.Spans.{IsMendPlan};
 ghost use Rattle.share_mends.specs.Parts.{piece_in};
 ghost use Rattle.share_mends.specs.Asked.{helps, GivesIf, AreAsked, FailsAt, NoReadFails};
 ghost use Rattle.share_mends.specs.Gathered.{HasPart, NamesPart, AreParts, ArePartsOf, NamesFirstOf};
 
 use crate::fault::{MendFault, RottenPart};
 use crate::parts::read_part;
-use crate::spans::Plan;
+use crate::spans::MendPlan;
 use crc64::Crc64;
 use file_bytes::SourceAt;
 use share_files::BlockFault;
@@ -25,13 +25,13 @@ fn part_of<S: SourceAt>(
     alloc: Global,
     crc: &Crc64,
     source: &mut S,
-    plan: &Plan,
+    plan: &MendPlan,
     rooms: &mut Vec<Vec<u8>>,
     stripe: u64,
     share: u32,
     help: bool,
 ) -> Result<Option<Vec<u8>>, MendFault>
-    requires plan { IsPlan plan.now }
+    requires plan { IsMendPlan plan.now }
     requires place { block_start plan.now.geometry stripe + block_length plan.now.geometry < 2 ^ 64 }
     ensures there { IfOk result (λ part. is_some part ≡ help) }
     ensures long { IfOk result (λ part. IfSome part (λ v. length v.items ≡ part_bytes plan.now.geometry)) }
@@ -60,12 +60,12 @@ pub(crate) fn read_parts<S: SourceAt>(
     alloc: Global,
     crc: &Crc64,
     sources: &mut [S],
-    plan: &Plan,
+    plan: &MendPlan,
     helpers: &[bool],
     rooms: &mut Vec<Vec<u8>>,
     stripe: u64,
 ) -> Result<Vec<Option<Vec<u8>>>, MendFault>
-    requires plan { IsPlan plan.now }
+    requires plan { IsMendPlan plan.now }
     requires shares { length sources.old ≡ all_chunks plan.now.geometry }
     requires marks { length helpers.now ≡ all_chunks plan.now.geometry }
     requires place { block_start plan.now.geometry stripe + block_length plan.now.geometry < 2 ^ 64 }

@@ -10,7 +10,7 @@ ghost use Rattle.share_format.specs.Mend.{block_ranges};
 ghost use Rattle.share_format.specs.Shares.{block_start};
 ghost use Rattle.share_files.specs.Seen.{seen, Show};
 ghost use Rattle.share_files.specs.Put.{PutsBlock, PutsAtMost, PutsBlocks, PutsSome, PutsPart, HasChunks, PutsFile, PutsShare};
-ghost use Rattle.share_mends.specs.Spans.{IsPlan};
+ghost use Rattle.share_mends.specs.Spans.{IsMendPlan};
 ghost use Rattle.share_mends.specs.Asked.{helps, AreHelpers, AreAsked, FailsAt, OneReadFails, NoReadFails};
 ghost use Rattle.share_mends.specs.Gathered.{NamesFirstOf};
 ghost use Rattle.share_mends.specs.Mended.{HasGood, HaveGood, NamesFirst, AreOfWords, IsMended, IsMendedBlock};
@@ -18,7 +18,7 @@ ghost use Rattle.share_mends.specs.Mended.{HasGood, HaveGood, NamesFirst, AreOfW
 use crate::fault::MendFault;
 use crate::gathering::read_parts;
 use crate::parts::keep_rooms;
-use crate::spans::{Plan, make_plan};
+use crate::spans::{MendPlan, make_plan};
 use clay_bytes::WriteFault;
 use crc64::Crc64;
 use file_bytes::{SinkAt, SourceAt};
@@ -31,12 +31,12 @@ fn mended_block<S: SourceAt>(
     alloc: Global,
     crc: &Crc64,
     sources: &mut [S],
-    plan: &Plan,
+    plan: &MendPlan,
     helpers: &[bool],
     rooms: &mut Vec<Vec<u8>>,
     stripe: u64,
 ) -> Result<Vec<u8>, MendFault>
-    requires plan { IsPlan plan.now }
+    requires plan { IsMendPlan plan.now }
     requires shares { length sources.old ≡ all_chunks plan.now.geometry }
     requires helpers { AreHelpers plan.now.geometry plan.now.lost helpers.now }
     requires place { block_start plan.now.geometry stripe + block_length plan.now.geometry < 2 ^ 64 }
@@ -64,13 +64,13 @@ fn mend_one<S: SourceAt, K: SinkAt>(
     alloc: Global,
     crc: &Crc64,
     sources: &mut [S],
-    plan: &Plan,
+    plan: &MendPlan,
     helpers: &[bool],
     rooms: &mut Vec<Vec<u8>>,
     sink: &mut K,
     stripe: u64,
 ) -> Result<Vec<u8>, MendFault>
-    requires plan { IsPlan plan.now }
+    requires plan { IsMendPlan plan.now }
     requires shares { length sources.old ≡ all_chunks plan.now.geometry }
     requires helpers { AreHelpers plan.now.geometry plan.now.lost helpers.now }
     requires place { block_start plan.now.geometry stripe + block_length plan.now.geometry < 2 ^ 64 }
@@ -100,12 +100,12 @@ fn mend_stripes<S: SourceAt, K: SinkAt>(
     alloc: Global,
     crc: &Crc64,
     sources: &mut [S],
-    plan: &Plan,
+    plan: &MendPlan,
     helpers: &[bool],
     sink: &mut K,
     stripes: u64,
 ) -> Result<(), MendFault>
-    requires plan { IsPlan plan.now }
+    requires plan { IsMendPlan plan.now }
     requires shares { length sources.old ≡ all_chunks plan.now.geometry }
     requires helpers { AreHelpers plan.now.geometry plan.now.lost helpers.now }
     requires place { block_start plan.now.geometry stripes < 2 ^ 64 }

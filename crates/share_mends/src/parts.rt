@@ -6,10 +6,10 @@ ghost use Rattle.share_format.specs.Blocks.{block_length, chunk_start};
 ghost use Rattle.share_format.specs.Mend.{block_ranges};
 ghost use Rattle.share_format.specs.Shares.{block_start};
 ghost use Rattle.share_mends.specs.Places.{GivesAt, GivesJust};
-ghost use Rattle.share_mends.specs.Spans.{range_at, ranges_at, span_bytes, IsShort, AreShort, IsPlan};
+ghost use Rattle.share_mends.specs.Spans.{range_at, ranges_at, span_bytes, IsShort, AreShort, IsMendPlan};
 ghost use Rattle.share_mends.specs.Parts.{piece_in, IsFoundPart};
 
-use crate::spans::{Plan, Span};
+use crate::spans::{MendPlan, Span};
 use crc64::Crc64;
 use file_bytes::{ReadFault, SourceAt, read_exact_at};
 use share_files::{BlockFault, block_place, chunk_place};
@@ -110,11 +110,11 @@ pub(crate) fn keep_rooms(
 fn good_part(
     alloc: Global,
     crc: &Crc64,
-    plan: &Plan,
+    plan: &MendPlan,
     rooms: &mut Vec<Vec<u8>>,
     piece: &[u8],
 ) -> Result<Option<Vec<u8>>, AllocError>
-    requires plan { IsPlan plan.now }
+    requires plan { IsMendPlan plan.now }
     requires size { length piece.now ≡ chunk_start plan.now.geometry + part_bytes plan.now.geometry }
     ensures found { IfOk result (IsFoundPart plan.now.geometry plan.now.lost piece.now) }
     ensures long { IfOk result (λ part. IfSome part (λ v. length v.items ≡ part_bytes plan.now.geometry)) }
@@ -139,11 +139,11 @@ pub(crate) fn read_part<S: SourceAt>(
     alloc: Global,
     crc: &Crc64,
     source: &mut S,
-    plan: &Plan,
+    plan: &MendPlan,
     rooms: &mut Vec<Vec<u8>>,
     stripe: u64,
 ) -> Result<Option<Vec<u8>>, BlockFault>
-    requires plan { IsPlan plan.now }
+    requires plan { IsMendPlan plan.now }
     requires place { block_start plan.now.geometry stripe + block_length plan.now.geometry < 2 ^ 64 }
     // Whatever file the source shows, its part is found or missed as it is.
     ensures found { (file : List ℕ) → Shows file (S.given source.new) (S.ends source.new) → IfOk result (IsFoundPart plan.now.geometry plan.now.lost (piece_in plan.now.geometry plan.now.lost stripe file)) }

@@ -5,7 +5,7 @@ ghost use Rattle.clay_aloof.specs.Shape.{all_chunks, grid_of};
 ghost use Rattle.clay_aloof.specs.Repair.{aloof_layers_of};
 ghost use Rattle.share_format.specs.Blocks.{chunk_start, block_length};
 ghost use Rattle.share_mends.specs.Places.{places_in};
-ghost use Rattle.share_mends.specs.Spans.{ranges_at, AreSpans, IsPlan};
+ghost use Rattle.share_mends.specs.Spans.{ranges_at, AreSpans, IsMendPlan};
 
 use clay_aloof::{AloofGeometry, aloof_layers};
 use share_files::chunk_place;
@@ -79,7 +79,7 @@ pub(crate) fn block_spans(
 
 /// What a mend of a share takes of each stripe: the layers of the repair, and the reads of a block that have their subchunks.
 #[derive(Drop)]
-pub(crate) struct Plan {
+pub(crate) struct MendPlan {
     pub geometry: AloofGeometry,
     pub lost: u32,
     pub layers: Vec<u32>,
@@ -91,9 +91,9 @@ pub(crate) fn make_plan(
     alloc: Global,
     geometry: AloofGeometry,
     lost: u32,
-) -> Result<Plan, AllocError>
+) -> Result<MendPlan, AllocError>
     requires { lost < all_chunks geometry }
-    ensures plan { IfOk result IsPlan }
+    ensures plan { IfOk result IsMendPlan }
     ensures geometry { IfOk result (λ plan. plan.geometry ≡ geometry) }
     ensures lost { IfOk result (λ plan. plan.lost ≡ lost) }
 {
@@ -101,7 +101,7 @@ pub(crate) fn make_plan(
     let _chunks = geometry.n();
     let layers = aloof_layers(alloc, geometry, lost)?;
     let spans = block_spans(alloc, geometry, lost, &layers)?;
-    Ok(Plan {
+    Ok(MendPlan {
         geometry,
         lost,
         layers,

@@ -9,7 +9,7 @@ ghost use Rattle.share_run.specs.Places.{filled_from, kept};
 ghost use Rattle.share_run.specs.Cut.{heard, cut_run, CutEnds};
 
 use crate::ShareStatus;
-use crate::places::Places;
+use crate::places::FilePlaces;
 use clay_aloof::AloofGeometry;
 use clay_bytes::{Failed, Source};
 use crc64::Crc64;
@@ -18,7 +18,7 @@ use share_files::{CutFault, cut};
 use std::alloc::Global;
 
 // Puts the shares of a code into the places of their numbers.
-fn fill_all<K: SinkAt, P: Places<K>>(
+fn fill_all<K: SinkAt, P: FilePlaces<K>>(
     geometry: AloofGeometry,
     sinks: &[K],
     places: &mut P,
@@ -66,7 +66,7 @@ fn cut_beside<S: Source, K: SinkAt>(
 }
 
 /// Cuts the file that a source gives into shares beside their places, a sink for each, and then puts them there.
-pub fn cut_main<S: Source, K: SinkAt, P: Places<K>>(
+pub fn cut_main<S: Source, K: SinkAt, P: FilePlaces<K>>(
     alloc: Global,
     geometry: AloofGeometry,
     source: &mut S,

@@ -6,7 +6,7 @@ ghost use Rattle.share_run.specs.Places.{kept};
 ghost use Rattle.share_run.specs.Join.{join_run, JoinEnds};
 
 use crate::ShareStatus;
-use crate::places::Place;
+use crate::places::FilePlace;
 use clay_bytes::{Failed, Sink};
 use crc64::Crc64;
 use file_bytes::SourceAt;
@@ -15,7 +15,7 @@ use share_format::ShareHeader;
 use std::alloc::Global;
 
 /// Joins a file from its shares beside its place, and then puts it there. `missed` has an entry for each share, as `join` sets it.
-pub fn join_main<S: SourceAt, K: Sink, P: Place<K>>(
+pub fn join_main<S: SourceAt, K: Sink, P: FilePlace<K>>(
     alloc: Global,
     crc: &Crc64,
     header: &ShareHeader,

@@ -24,7 +24,7 @@ pub use helpers::choose_helpers;
 pub use joining::join_main;
 pub use laws::{cut_shares_join, cut_shares_mend, joined_files_are_right};
 pub use mending::{MendStop, mend_main};
-pub use places::{Place, Places};
+pub use places::{FilePlace, FilePlaces};
 pub use rebuilding::rebuild_main;
 pub use said::{ends, ends_short, exit_with, fails};
 pub use serving::{serve_check, serve_cut, serve_join, serve_mend, serve_rebuild};

@@ -7,7 +7,7 @@ ghost use Rattle.share_run.specs.Places.{kept};
 ghost use Rattle.share_run.specs.Mend.{mend_run, MendEnds, MendStops};
 
 use crate::ShareStatus;
-use crate::places::Places;
+use crate::places::FilePlaces;
 use clay_bytes::Failed;
 use crc64::Crc64;
 use file_bytes::{SinkAt, SourceAt};
@@ -25,7 +25,7 @@ pub enum MendStop {
 }
 
 /// Mends the share of the header's number from the marked helpers' parts, beside its place, and then puts it there.
-pub fn mend_main<S: SourceAt, K: SinkAt, P: Places<K>>(
+pub fn mend_main<S: SourceAt, K: SinkAt, P: FilePlaces<K>>(
     alloc: Global,
     crc: &Crc64,
     header: &ShareHeader,

@@ -8,7 +8,7 @@ use clay_bytes::{Failed, Sink};
 use file_bytes::SinkAt;
 
 /// Places for files that are written at positions, by their numbers. A place is filled in one step.
-pub trait Places<K: SinkAt> {
+pub trait FilePlaces<K: SinkAt> {
     /// Which files were put into which places, in the order of the calls.
     ghost filled_in: { Self → List Filled };
 
@@ -24,14 +24,14 @@ pub trait Places<K: SinkAt> {
 }
 
 /// A place for a file that is written in a row.
-pub trait Place<K: Sink> {
+pub trait FilePlace<K: Sink> {
     /// Which files were put into it, as place 0, in the order of the calls.
     ghost filled_in: { Self → List Filled };
 
     /// How many calls have failed, as a number that stops at the end of its type.
     ghost faults: { Self → ℕ };
 
-    /// As `Places::fill`.
+    /// As `FilePlaces::fill`.
     fn fill(&mut self, made: &K) -> Result<(), Failed>
         ensures filled { OnOk result (filled_in self.new ≡ filled_in self.old ++ filled 0 (K.accepted made.now) ∷ []) }
         ensures unfilled { OnErr result (filled_in self.new ≡ filled_in self.old) }

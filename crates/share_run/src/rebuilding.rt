@@ -7,7 +7,7 @@ ghost use Rattle.share_run.specs.Mend.{mend_run};
 ghost use Rattle.share_run.specs.Rebuild.{RebuildEnds};
 
 use crate::ShareStatus;
-use crate::places::Places;
+use crate::places::FilePlaces;
 use clay_bytes::Failed;
 use crc64::Crc64;
 use file_bytes::{SinkAt, SourceAt};
@@ -16,7 +16,7 @@ use share_mends::{RebuildFault, mend_whole};
 use std::alloc::Global;
 
 /// Mends the share of the header's number from whole blocks of any `K` shares, beside its place, and then puts it there.
-pub fn rebuild_main<S: SourceAt, K: SinkAt, P: Places<K>>(
+pub fn rebuild_main<S: SourceAt, K: SinkAt, P: FilePlaces<K>>(
     alloc: Global,
     crc: &Crc64,
     header: &ShareHeader,

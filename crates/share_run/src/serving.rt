@@ -17,7 +17,7 @@ use crate::checking::check_main;
 use crate::cutting::cut_main;
 use crate::joining::join_main;
 use crate::mending::{MendStop, mend_main};
-use crate::places::{Place, Places};
+use crate::places::{FilePlace, FilePlaces};
 use crate::rebuilding::rebuild_main;
 use crate::said::{ends, exit_with};
 use clay_aloof::AloofGeometry;
@@ -53,7 +53,7 @@ fn cut_trouble(status: ShareStatus) -> &'static str {
 
 /// Cuts the file that a source gives into shares beside their places, a sink for each, and then puts them there. Says why it ended, if not
 /// well, and ends with the number of that status.
-pub fn serve_cut<R: Eprint, S: Source, K: SinkAt, P: Places<K>>(
+pub fn serve_cut<R: Eprint, S: Source, K: SinkAt, P: FilePlaces<K>>(
     rt: &R,
     alloc: Global,
     geometry: AloofGeometry,
@@ -87,7 +87,7 @@ fn join_trouble(status: ShareStatus) -> &'static str {
 
 /// Joins a file from its shares beside its place, and then puts it there. Says why it ended, if not well, and ends with the number of that
 /// status. `missed` has an entry for each share, as `join` sets it.
-pub fn serve_join<R: Eprint, S: SourceAt, K: Sink, P: Place<K>>(
+pub fn serve_join<R: Eprint, S: SourceAt, K: Sink, P: FilePlace<K>>(
     rt: &R,
     alloc: Global,
     crc: &Crc64,
@@ -122,7 +122,7 @@ fn mend_trouble(status: ShareStatus) -> &'static str {
 
 /// Mends the share of the header's number from the marked helpers' parts, beside its place, and then puts it there. Says why it ended, if not
 /// well, and ends with the number of that status. Where it stops at a helper, whole chunks may still do.
-pub fn serve_mend<R: Eprint, S: SourceAt, K: SinkAt, P: Places<K>>(
+pub fn serve_mend<R: Eprint, S: SourceAt, K: SinkAt, P: FilePlaces<K>>(
     rt: &R,
     alloc: Global,
     crc: &Crc64,
@@ -153,7 +153,7 @@ pub fn serve_mend<R: Eprint, S: SourceAt, K: SinkAt, P: Places<K>>(
 
 /// Mends the share of the header's number from whole blocks of any `K` shares, beside its place, and then puts it there. Says why it ended, if
 /// not well, and ends with the number of that status.
-pub fn serve_rebuild<R: Eprint, S: SourceAt, K: SinkAt, P: Places<K>>(
+pub fn serve_rebuild<R: Eprint, S: SourceAt, K: SinkAt, P: FilePlaces<K>>(
     rt: &R,
     alloc: Global,
     crc: &Crc64,

@@ -28,7 +28,7 @@ returns-in-Err-clause-part g c =
 
 pub returns-in-Err-clause-cause : goal.returns-in-Err-clause-cause
 returns-in-Err-clause-cause g c =
-    let P : ℕ → Type 0 = λ k. Rises k (g.P.Places.faults c.fill.new.self) in
+    let P : ℕ → Type 0 = λ k. Rises k (g.P.FilePlaces.faults c.fill.new.self) in
     subst P c.loop-place.invariant.steady c.in-Err.ensures.cause
 
 pub returns-clause-filled : goal.returns-clause-filled

@@ -5,6 +5,6 @@ use Rattle.share_run.proofs.cutting.fill_all.Given as goal
 
 abbrev pub invariant-loop-place : goal.invariant-loop-place
 invariant-loop-place g l = record {
-  filled : g.P.Places.filled_in l.places ≡ g.P.Places.filled_in l.fn.places ++ filled_from 0 (take l.place (map (λ sink. laid (g.K.SinkAt.put sink)) l.sinks));
-  steady : g.P.Places.faults l.places ≡ g.P.Places.faults l.fn.places;
+  filled : g.P.FilePlaces.filled_in l.places ≡ g.P.FilePlaces.filled_in l.fn.places ++ filled_from 0 (take l.place (map (λ sink. laid (g.K.SinkAt.put sink)) l.sinks));
+  steady : g.P.FilePlaces.faults l.places ≡ g.P.FilePlaces.faults l.fn.places;
 }
