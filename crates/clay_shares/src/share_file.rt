@@ -42,11 +42,10 @@ pub(crate) struct ShareFile<'a, R: Eprint> {
 }
 
 impl<'a, R: Eprint> ShareFile<'a, R> {
-    /// No file. Whether it was said already why there is none.
-    pub(crate) fn missing(is_told: bool) -> Self {
+    fn new(file: Option<StdFile<ToldFile<'a, R>>>, is_told: bool) -> Self {
         ShareFile {
             is_told,
-            file: None,
+            file,
             given: PlaceLog::new(),
             ends: PositionLog::new(),
             failed: PositionLog::new(),
@@ -54,15 +53,13 @@ impl<'a, R: Eprint> ShareFile<'a, R> {
         }
     }
 
+    /// No file. Whether it was said already why there is none.
+    pub(crate) fn missing(is_told: bool) -> Self {
+        ShareFile::new(None, is_told)
+    }
+
     pub(crate) fn of(file: ToldFile<'a, R>) -> Self {
-        ShareFile {
-            is_told: false,
-            file: Some(StdFile::new(file)),
-            given: PlaceLog::new(),
-            ends: PositionLog::new(),
-            failed: PositionLog::new(),
-            taken: Taken::nothing(),
-        }
+        ShareFile::new(Some(StdFile::new(file)), false)
     }
 
     pub(crate) fn is_missing(&self) -> bool {
@@ -74,11 +71,9 @@ impl<'a, R: Eprint> ShareFile<'a, R> {
         self.is_told
     }
 
-    /// Closes it: it counts as missing. Where it is there, it was said why.
+    /// Closes the file, where it was said why: it counts as missing.
     pub(crate) fn close(&mut self) {
-        if self.file.is_some() {
-            self.is_told = true;
-        }
+        self.is_told = true;
         self.file = None;
     }
 
