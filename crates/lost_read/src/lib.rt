@@ -6,6 +6,7 @@ mod missing_fault;
 mod missing_plan;
 mod missing_reading;
 mod missing_reads;
+mod places;
 mod plan;
 mod read;
 mod reading;

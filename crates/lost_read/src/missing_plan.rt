@@ -1,12 +1,11 @@
 //! What a run is read with.
-ghost use Rattle.std.specs.Prelude.{◌≡◌, ◌*◌, [], ◌∷◌, length, IfOk};
-ghost use Rattle.clay_grid.specs.Shape.{chunk_count, layer_count};
-ghost use Rattle.lost_read.specs.Plan.{AreSubchunks, HasPlaces};
+ghost use Rattle.std.specs.Prelude.{◌≡◌, [], ◌∷◌, IfOk};
+ghost use Rattle.clay_grid.specs.Shape.{layer_count};
 ghost use Rattle.lost_layers.specs.ErasedPieces.{pieces_of};
 ghost use Rattle.lost_layers.specs.ErasedRuns.{solved_of, IsSolvedRun};
 ghost use Rattle.lost_read.specs.MissingPlan.{AreRanks, IsReadPlan};
 
-use clay_grid::Geometry;
+use crate::places::places_of;
 use clay_kernels::{Products, fifths, halves, zeros};
 use generator_matrix::{Generator, generator_of};
 use lane_repair::erased_points;
@@ -31,28 +30,6 @@ pub(crate) struct ReadPlan {
     /// The products of the inverses of 2 and of 5.
     pub(crate) halves: Products,
     pub(crate) fifths: Products,
-}
-
-// Writes the place of each piece.
-fn write_places(g: Geometry, list: &[LostPiece], places: &mut [usize])
-    requires subchunks { AreSubchunks g list.now }
-    requires places_len { length places.old ≡ chunk_count g * layer_count g }
-    ensures { HasPlaces g list.now (length list.now) places.new }
-{
-    for (at, piece) in list.iter().enumerate() {
-        places[(piece.chunk * g.alpha() + piece.layer) as usize] = at;
-    }
-}
-
-// For each subchunk its place among the pieces.
-fn places_of(alloc: Global, g: Geometry, list: &[LostPiece]) -> Result<Vec<usize>, AllocError>
-    requires { AreSubchunks g list.now }
-    ensures len { IfOk result (λ v. length v.items ≡ chunk_count g * layer_count g) }
-    ensures places { IfOk result (λ v. HasPlaces g list.now (length list.now) v.items) }
-{
-    let mut places = vec![in alloc; 0usize; (g.n() * g.alpha()) as usize]?;
-    write_places(g, list, &mut places);
-    Ok(places)
 }
 
 // The rank of the first layer, with room for those of so many more.

@@ -1,5 +1,5 @@
 //! The reading of a run: the values of unknown nodes layer by layer, and the wanted subchunks of them.
-ghost use Rattle.std.specs.Prelude.{◌≡◌, ◌≢◌, ◌+◌, ◌-◌, ◌*◌, ◌<◌, [], map, length, slice_index, slice_index_or, true, false, Contains, OnOk, OnErr};
+ghost use Rattle.std.specs.Prelude.{◌≡◌, ◌≢◌, ◌-◌, ◌*◌, ◌<◌, length, true, false, OnOk, OnErr};
 ghost use Rattle.clay_grid.specs.Shape.{chunk_count, node_count, layer_count, node_of_chunk};
 ghost use Rattle.clay_model.specs.Partners.{ArePartners};
 ghost use Rattle.lost_layers.specs.LostLayers.{is_wanted};
@@ -11,6 +11,7 @@ ghost use Rattle.lost_read.specs.MissingReadings.{run_of, IsReading, IsCoupledIn
 ghost use Rattle.lost_read.specs.Values.{values_length, HoldsRowsIn, AddsNodeIn, HoldsLayerIn, HoldsLowerIn, HoldsAllIn, AddsLayerIn};
 
 use crate::missing_plan::ReadPlan;
+use crate::places::{bytes_at, place_of};
 use clay_kernels::{couple, cross, uncouple, uncouple_from, zeros};
 use clay_model::{Subchunk, partner_of};
 use lost_layers::SolvedRun;
@@ -22,28 +23,6 @@ pub(crate) struct Reading<'a> {
     pub(crate) run: &'a SolvedRun<'a>,
     pub(crate) plan: &'a ReadPlan,
     pub(crate) pieces: &'a [&'a [u8]],
-}
-
-// The bytes of the piece at a place.
-fn bytes_at<'a>(pieces: &[&'a [u8]], place: usize) -> &'a [u8]
-    requires { place < length pieces.now }
-    ensures { result.now ≡ slice_index_or (map (λ piece. piece.now) pieces.now) place [] }
-{
-    pieces[place]
-}
-
-// The place of an unknown node among them.
-fn place_of(points: &[u8], node: u32) -> usize
-    requires { Contains points.now node }
-    ensures within { result < length points.now }
-    ensures place { slice_index points.now result ≡ node }
-{
-    for (place, point) in points.iter().enumerate() {
-        if u32::from(*point) == node {
-            return place;
-        }
-    }
-    unreachable!()
 }
 
 impl<'a> Reading<'a> {

@@ -1,7 +1,6 @@
 //! Layers of a lost chunk from the pieces.
-ghost use Rattle.std.specs.Prelude.{◌≡◌, ◌<◌, ◌≤◌, ◌↔◌, length, map, All, IfErr, OnOk, OnErr, IsTrue};
+ghost use Rattle.std.specs.Prelude.{◌≡◌, ◌<◌, ◌≤◌, length, map, IfErr, OnOk, OnErr};
 ghost use Rattle.lost_layers.specs.Placing.{IsPlaced};
-ghost use Rattle.lost_read.specs.Read.{AreLong};
 ghost use Rattle.lost_layers.specs.Without.{IsReadable};
 ghost use Rattle.lost_layers.specs.ErasedPieces.{pieces_of};
 ghost use Rattle.lost_layers.specs.ErasedRuns.{solved_of, IsSolvedRun};
@@ -11,23 +10,10 @@ ghost use Rattle.lost_read.specs.MissingRefused.{IsMisfit, IsUnread, IsReadRefus
 use crate::missing_fault::MissingReadFault;
 use crate::missing_plan::ReadPlan;
 use crate::missing_reading::Reading;
+use crate::places::are_subchunks;
 use clay_grid::Geometry;
 use lost_layers::{LostPiece, LostRun, MarkedRun, PlacedRun, SolvedRun, readable_run};
 use std::alloc::{AllocError, Global};
-
-// Whether each piece has so many bytes.
-fn are_long(len: usize, pieces: &[&[u8]]) -> bool
-    ensures { IsTrue result ↔ All (λ piece. length piece.now ≡ len) pieces.now }
-{
-    pieces.iter().all(|piece| piece.len() == len)
-}
-
-// Whether each piece is as long as a subchunk.
-fn are_subchunks(g: Geometry, pieces: &[&[u8]]) -> bool
-    ensures { IsTrue result ↔ AreLong g.width (map (λ piece. piece.now) pieces.now) }
-{
-    are_long(g.w() as usize, pieces)
-}
 
 // Whether there are so many pieces, each as long as a subchunk, and room for the run.
 fn checked(

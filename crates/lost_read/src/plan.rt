@@ -3,14 +3,14 @@ ghost use Rattle.std.specs.Prelude.{◌≡◌, ℕ, ◌*◌, ◌<◌, length, If
 ghost use Rattle.clay_grid.specs.Shape.{chunk_count, node_count, layer_count};
 ghost use Rattle.lost_layers.specs.LostLayers.{is_wanted, is_solved, is_unknown};
 ghost use Rattle.lost_layers.specs.Placing.{IsPlaced};
-ghost use Rattle.lost_read.specs.Plan.{AreSubchunks, HasPlaces, ArePlacesOf, IsReadPlan};
+ghost use Rattle.lost_read.specs.Plan.{ArePlacesOf, IsReadPlan};
 
-use clay_grid::Geometry;
+use crate::places::places_of;
 use clay_kernels::{Products, halves, zeros};
 use clay_model::partner_of;
 use generator_matrix::{Generator, generator_of};
 use lane_repair::erased_points;
-use lost_layers::{LostPiece, PlacedRun, pieces_of_run};
+use lost_layers::{PlacedRun, pieces_of_run};
 use std::alloc::{AllocError, Global};
 
 /// What a run is read with.
@@ -29,28 +29,6 @@ pub(crate) struct ReadPlan {
     pub(crate) zeros: Vec<u8>,
     /// The products of the inverse of 2.
     pub(crate) halves: Products,
-}
-
-// Writes the place of each piece.
-fn write_places(g: Geometry, pieces: &[LostPiece], places: &mut [usize])
-    requires subchunks { AreSubchunks g pieces.now }
-    requires places_len { length places.old ≡ chunk_count g * layer_count g }
-    ensures { HasPlaces g pieces.now (length pieces.now) places.new }
-{
-    for (at, piece) in pieces.iter().enumerate() {
-        places[(piece.chunk * g.alpha() + piece.layer) as usize] = at;
-    }
-}
-
-// For each subchunk its place among the pieces.
-fn places_of(alloc: Global, g: Geometry, pieces: &[LostPiece]) -> Result<Vec<usize>, AllocError>
-    requires { AreSubchunks g pieces.now }
-    ensures len { IfOk result (λ v. length v.items ≡ chunk_count g * layer_count g) }
-    ensures places { IfOk result (λ v. HasPlaces g pieces.now (length pieces.now) v.items) }
-{
-    let mut places = vec![in alloc; 0usize; (g.n() * g.alpha()) as usize]?;
-    write_places(g, pieces, &mut places);
-    Ok(places)
 }
 
 // For each subchunk its place among the pieces of a run.

@@ -1,31 +1,18 @@
 //! Layers of a lost chunk from the pieces.
-ghost use Rattle.std.specs.Prelude.{◌≡◌, ◌↔◌, length, map, All, IfOk, IfErr, OnOk, OnErr, IsTrue};
+ghost use Rattle.std.specs.Prelude.{◌≡◌, length, map, IfOk, IfErr, OnOk, OnErr};
 ghost use Rattle.lost_layers.specs.Placing.{IsPlaced};
 ghost use Rattle.lost_read.specs.Plan.{IsReadPlan};
-ghost use Rattle.lost_read.specs.Read.{AreLong, IsReadable, IsReadFrom};
+ghost use Rattle.lost_read.specs.Read.{IsReadable, IsReadFrom};
 ghost use Rattle.lost_read.specs.Refused.{IsReadRefused};
 
 use crate::fault::ReadFault;
+use crate::places::are_subchunks;
 use crate::plan::ReadPlan;
 use crate::reading::Reading;
 use clay_grid::Geometry;
 use clay_kernels::zeros;
 use lost_layers::{LostRun, PlacedRun, lost_count};
 use std::alloc::{AllocError, Global};
-
-// Whether each piece has so many bytes.
-fn are_long(len: usize, pieces: &[&[u8]]) -> bool
-    ensures { IsTrue result ↔ All (λ piece. length piece.now ≡ len) pieces.now }
-{
-    pieces.iter().all(|piece| piece.len() == len)
-}
-
-// Whether each piece is as long as a subchunk.
-fn are_subchunks(g: Geometry, pieces: &[&[u8]]) -> bool
-    ensures { IsTrue result ↔ AreLong g.width (map (λ piece. piece.now) pieces.now) }
-{
-    are_long(g.w() as usize, pieces)
-}
 
 // The run with its place, where these are its pieces and there is room for it.
 fn checked(g: Geometry, run: LostRun, pieces: &[&[u8]], room: usize) -> Result<PlacedRun, ReadFault>

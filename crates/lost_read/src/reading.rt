@@ -1,11 +1,12 @@
 //! The reading of a run, layer by layer.
-ghost use Rattle.std.specs.Prelude.{◌≡◌, ◌≢◌, ℕ, ◌+◌, ◌-◌, ◌*◌, ◌<◌, ◌≤◌, List, [], map, length, slice_index, slice_index_or, true, false, Contains};
+ghost use Rattle.std.specs.Prelude.{◌≡◌, ◌≢◌, ◌+◌, ◌-◌, ◌*◌, ◌<◌, length, true, false};
 ghost use Rattle.clay_grid.specs.Shape.{chunk_count, node_count, layer_count, node_of_chunk};
 ghost use Rattle.lost_layers.specs.LostLayers.{is_wanted, is_solved, is_unknown};
 ghost use Rattle.lost_layers.specs.LostPieces.{is_piece, lost_pieces_of};
 ghost use Rattle.lost_read.specs.Plan.{StandsFor};
 ghost use Rattle.lost_read.specs.Readings.{IsReading, IsCoupledIn, IsUncoupledIn, HoldsSumIn, IsMateIn, HoldsRunIn};
 
+use crate::places::{bytes_at, place_of};
 use crate::plan::ReadPlan;
 use clay_kernels::{add_rows, cross, uncouple};
 use clay_model::{Subchunk, partner_of};
@@ -15,28 +16,6 @@ use clay_model::{Subchunk, partner_of};
 pub(crate) struct Reading<'a> {
     pub(crate) plan: &'a ReadPlan,
     pub(crate) pieces: &'a [&'a [u8]],
-}
-
-// The bytes of the piece at a place.
-fn bytes_at<'a>(pieces: &[&'a [u8]], place: usize) -> &'a [u8]
-    requires { place < length pieces.now }
-    ensures { result.now ≡ slice_index_or (map (λ piece. piece.now) pieces.now) place [] }
-{
-    pieces[place]
-}
-
-// The place of an erased node among them.
-fn place_of(points: &[u8], node: u32) -> usize
-    requires { Contains points.now node }
-    ensures within { result < length points.now }
-    ensures place { slice_index points.now result ≡ node }
-{
-    for (place, point) in points.iter().enumerate() {
-        if u32::from(*point) == node {
-            return place;
-        }
-    }
-    unreachable!()
 }
 
 impl<'a> Reading<'a> {

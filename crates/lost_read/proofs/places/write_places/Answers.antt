@@ -2,12 +2,12 @@ use Rattle.std.proofs.Common.{◌≡◌, ℕ, ◌+◌, ◌*◌, ◌<◌, length,
 use Rattle.clay_grid.specs.Shape.{chunk_count, layer_count}
 use Rattle.lost_read.specs.Plan.{HasPlaces}
 use Rattle.lost_read.proofs.ReadLaws.{none, key, key_below, places_more}
-use Rattle.lost_read.proofs.missing_plan.write_places.Goals as goal
+use Rattle.lost_read.proofs.places.write_places.Goals as goal
 
 pub bounds-places-piece : goal.bounds-places-piece
 bounds-places-piece c =
     let g = c.args.g in
-    let pieces = c.args.list.now in
+    let pieces = c.args.pieces.now in
     let at : ℕ = c.loop-at.at in
     let within : at < length pieces = omega (arith, c.loop-at-test.true, c.loop-at.auto.at-end) in
     let place : (get_or pieces at none).chunk * c.alpha.result + (get_or pieces at none).layer ≡ key g pieces at =
@@ -19,7 +19,7 @@ bounds-places-piece c =
 pub loop-at-preserved : goal.loop-at-preserved
 loop-at-preserved c =
     let g = c.args.g in
-    let pieces = c.args.list.now in
+    let pieces = c.args.pieces.now in
     let at : ℕ = c.loop-at.at in
     let within : at < length pieces = omega (arith, c.loop-at-test.true, c.loop-at.auto.at-end) in
     let place : (get_or pieces at none).chunk * c.alpha.result + (get_or pieces at none).layer ≡ key g pieces at =

@@ -1,7 +1,7 @@
 use Rattle.std.proofs.Common.{◌≡◌, ℕ, List, All, Bor, length, sym, subst}
 use Rattle.std.proofs.lemmas.List.Elements.{All-map}
 use Rattle.lost_read.proofs.ReadLaws.{all_from_map}
-use Rattle.lost_read.proofs.read.are_subchunks.Goals as goal
+use Rattle.lost_read.proofs.places.are_subchunks.Goals as goal
 
 pub returns : goal.returns
 returns c =
