@@ -1,9 +1,11 @@
 -- The groups' values make the parity chunks.
 -- "For whatever values the groups hold, the chunk has their coupled bytes" (IsRow, a quantifier inside ensures) saves arguments that no
 -- code needs.
-use Rattle.std.proofs.Common.{◌≡◌, ℕ, ◌+◌, ◌*◌, ◌/◌, ◌^◌, ◌<◌, List, [], length, get_or, drop, subst, sym, ap, ◌∙◌, arith}
+use Rattle.std.proofs.Common.{◌≡◌, ℕ, ◌+◌, ◌*◌, ◌/◌, ◌^◌, ◌<◌, ◌≤◌, List, [], ◌∷◌, ◌++◌, length, get_or, drop, subst, sym, ap, inl, inr, ◌∙◌, arith}
 use Rattle.std.specs.Fork.{slice_chunk}
-use Rattle.std.proofs.lemmas.List.{get_or-take, get_or-drop}
+use Rattle.std.proofs.lemmas.Bool.{cases_lt}
+use Rattle.std.proofs.lemmas.Nat.{mul-le}
+use Rattle.std.proofs.lemmas.List.{get_or-take, get_or-drop, get_or_append_left, get_or_push}
 use Rattle.clay_grid.specs.Shape.{Shape, row_count, layer_count, chunk_length, stripe_length}
 use Rattle.clay_grid.specs.Limits.{IsGeometry}
 use Rattle.clay_parity.specs.Blocks.{HoldsGroup}
@@ -56,3 +58,20 @@ rows_behind g geometry held_groups bytes rows value holds =
           sym (get_or-take len (drop (x * len) bytes) o 0 inside ∙ get_or-drop (x * len) bytes o 0)
           ∙ rows x hx value holds o inside;
     }
+
+-- one group more with its number
+pub numbered_more : (groups : List Group) (new : Group) (n : ℕ) → length groups ≡ n → new.number ≡ n
+    → ((i : ℕ) (d : Group) → i < n → (get_or groups i d).number ≡ i)
+    → (i : ℕ) (d : Group) → i < n + 1 → (get_or (groups ++ new ∷ []) i d).number ≡ i
+numbered_more groups new n long number before i d h = elim (cases_lt i n) [
+  | inl early ↦ ap (λ (g : Group). g.number) (get_or_append_left groups (new ∷ []) d i (omega (arith, early, long))) ∙ before i d early
+  | inr late ↦
+      let here : i ≡ n = omega (arith, late, h) in
+      ap (λ (g : Group). g.number) (get_or_push groups new d i (long ∙ sym here)) ∙ number ∙ sym here
+]
+
+-- a group below as many as all layers make is of theirs
+pub in_layers : (number q all : ℕ) → 0 < q → number < all / q → number * q + q ≤ all
+in_layers number q all some h =
+    let more = mul-le (number + 1) q (all / q) q (omega arith) (omega arith) in
+    omega (arith, more, some)

@@ -1,11 +1,20 @@
-use Rattle.std.proofs.Common.{◌≡◌, ℕ, ◌<◌, List, length, get_or, sym, subst, ap, ◌∙◌, arith}
+use Rattle.std.proofs.Common.{◌≡◌, ℕ, ◌<◌, List, length, get_or, All, sym, subst, ap, ◌∙◌, arith}
 use Rattle.clay_parity.specs.Blocks.{HoldsGroup}
 use Rattle.clay_parity.specs.Solved.{layer_value}
-use Rattle.clay_par.specs.Groups.{AreSolved}
+use Rattle.clay_par.specs.Groups.{HasRoom, AreSolved}
 use Rattle.clay_par.specs.declared.parity.Group.{Group}
 use Rattle.clay_par.proofs.Makes.{written_all}
 use Rattle.clay_par.proofs.GroupLemmas.{held}
 use Rattle.clay_par.proofs.parity.solved_groups.Goals as goal
+
+pub solve_all-requires-clause-room : goal.solve_all-requires-clause-room
+solve_all-requires-clause-room g c κs _ = subst (All (HasRoom c.args.g)) (sym c.deref_mut.ensures.value) c.in_ok-groups.ensures.room
+
+pub solve_all-requires-clause-generator : goal.solve_all-requires-clause-generator
+solve_all-requires-clause-generator g c κs _ = c.in_ok-generator.ensures
+
+pub solve_all-requires-clause-whole : goal.solve_all-requires-clause-whole
+solve_all-requires-clause-whole g c κs _ = c.requires
 
 pub returns : goal.returns
 returns g c =
