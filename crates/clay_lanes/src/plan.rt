@@ -1,7 +1,6 @@
 //! What a call of decoding works with.
 ghost use Rattle.std.specs.Prelude.{◌≡◌, ℕ, ◌<◌, ◌≤◌, length, IfOk, slice_index_or, false, count_by, is_none};
 ghost use Rattle.clay_grid.specs.Shape.{chunk_count, node_count, chunk_length};
-ghost use Rattle.clay_model.specs.Erased.{erased_below};
 ghost use Rattle.clay_model.specs.Left.{AreLong};
 ghost use Rattle.lane_repair.specs.Views.{pieces_of, HasRoom};
 ghost use Rattle.clay_lanes.specs.Present.{is_gone};
@@ -10,7 +9,7 @@ ghost use Rattle.clay_lanes.specs.Recovered.{IsPlanFor, IsLanePlan};
 use clay_grid::Geometry;
 use clay_kernels::{Products, fifths, zeros};
 use generator_matrix::{Generator, generator_of};
-use lane_repair::ChunkView;
+use lane_repair::{ChunkView, erased_points};
 use std::alloc::{AllocError, Global};
 
 /// The erased nodes, which are those of the missing chunks, and the order of the layers.
@@ -56,20 +55,6 @@ fn erased_nodes(alloc: Global, g: Geometry, have: ChunkView<'_>) -> Result<Vec<b
         erased.push(is_missing(g, have, node))?;
     }
     Ok(erased)
-}
-
-// The numbers of the erased nodes, rising.
-fn erased_points(alloc: Global, erased: &[bool]) -> Result<Vec<u8>, AllocError>
-    requires { length erased.now ≤ 256 }
-    ensures { IfOk result (λ v. v.items ≡ erased_below erased.now (length erased.now)) }
-{
-    let mut points = Vec::new(alloc);
-    for (node, missing) in erased.iter().enumerate() {
-        if *missing {
-            points.push(node as u8)?;
-        }
-    }
-    Ok(points)
 }
 
 /// The plan for what a view shows, of which no more is missing than there are parity chunks.
