@@ -35,6 +35,16 @@ fn parity_fits(g: AloofGeometry, stripe: &[u8], parity: &[u8]) -> bool
     parity.len() == g.m() as usize * g.chunk_len() as usize
 }
 
+// Whether these are a mark for each chunk, and as many chunks.
+fn chunks_fit(g: AloofGeometry, present: &[u8], chunks: &[u8]) -> bool
+    ensures { IsTrue result ↔ AloofChunksFit g present.now chunks.now }
+{
+    if present.len() != g.n() as usize {
+        return false;
+    }
+    chunks.len() == g.n() as usize * g.chunk_len() as usize
+}
+
 // Whether these are a mark for each chunk, a part for each helper, and room for a chunk.
 fn parts_fit(g: AloofGeometry, helpers: &[u8], parts: &[u8], chunk: &[u8]) -> bool
     ensures { IsTrue result ↔ MarkedPartsFit g helpers.now parts.now chunk.now }
@@ -135,7 +145,7 @@ pub extern "C" fn clay_recover_with_helpers(
     let Some(g) = geometry(k, m, d, w) else {
         return BAD_GEOMETRY;
     };
-    if present.len() != g.n() as usize || chunks.len() != g.n() as usize * g.chunk_len() as usize {
+    if !chunks_fit(g, present, chunks) {
         return BAD_LENGTH;
     }
     if missing_count(present) > g.m() as usize {

@@ -73,6 +73,17 @@ fn chunks_fit(g: Geometry, present: &[u8], chunks: &[u8]) -> bool
     chunks.len() == g.n() as usize * g.chunk_len() as usize
 }
 
+// Whether these are parts of all but one chunk, and room for that one.
+fn parts_fit(g: Geometry, parts: &[u8], chunk: &[u8]) -> bool
+    ensures { IsTrue result ↔ PartsFit g parts.now chunk.now }
+{
+    let others = g.n() as usize - 1;
+    if parts.len() != others * part_len(g) as usize {
+        return false;
+    }
+    chunk.len() == g.chunk_len() as usize
+}
+
 /// Writes the numbers of the code of `k` data chunks, `m` parity chunks and subchunks of `w` bytes, or ends with `BAD_GEOMETRY`.
 #[unsafe(no_mangle)]
 pub extern "C" fn clay_geometry(k: u32, m: u32, w: u32, numbers: &mut ClayNumbers) -> u32
@@ -226,8 +237,7 @@ pub extern "C" fn clay_rebuild(
     if lost >= g.n() {
         return BAD_CHUNK;
     }
-    let others = g.n() as usize - 1;
-    if parts.len() != others * part_len(g) as usize || chunk.len() != g.chunk_len() as usize {
+    if !parts_fit(g, parts, chunk) {
         return BAD_LENGTH;
     }
     match write_rebuilt(alloc, g, lost, parts, chunk) {

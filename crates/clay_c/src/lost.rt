@@ -13,8 +13,8 @@ use clay_grid::Geometry;
 use lost_layers::{LostPiece, LostRun, PlacedRun, count_of_run, pieces_of_run};
 use std::alloc::Global;
 
-// Whether a chunk has these layers.
-fn are_layers(g: Geometry, from: u32, to: u32) -> bool
+/// Whether a chunk has these layers.
+pub fn are_layers(g: Geometry, from: u32, to: u32) -> bool
     ensures { IsTrue result ↔ AreLayers g from to }
 {
     if from > to {
