@@ -68,19 +68,7 @@ shifts_sync = declared_sync shifts.the_type (search sendable, (search crosses, (
 token_send : IsSend token.the_row
 token_send = search sendable depth 20
 
-turns_send : IsSend turns.the_row
-turns_send = declared_send turns.the_type (search sendable, (directory_turn_send, (server_turns_send, tt)))
-
-seated_send : (ν : NamedLft) → IsSend (seated.the_row ν)
-seated_send ν = declared_send (seated.the_type ν) (caller_send ν, (search sendable depth 20, (search sendable, (search sendable, (turns_send, tt)))))
-
-seated_sweeper_send : IsSend sweeper.the_row
-seated_sweeper_send = declared_send sweeper.the_type (sweeper_send, (search sendable, (turns_send, tt)))
-
-seated_operator_send : IsSend operator.the_row
-seated_operator_send = declared_send operator.the_type (Vec-send token.the_row token_send, (search sendable, (turns_send, tt)))
-
--- the same of their rows as an enum has them
+-- actors and their turns, by their rows as an enum has them
 turns_row_send : IsSend turns.the_field.row
 turns_row_send = struct_send (struct.shape turns.the_type) (search sendable, (directory_turn_send, (server_turns_send, tt)))
 
