@@ -200,15 +200,15 @@ pub none_of : (o : Option MachineOf) → is_some o ≡ false → o ≡ None
 none_of None none = refl
 none_of (Some c) none = absurd (true≢false none)
 
--- the rebuild that is read under a number is the one that is asked there
-pub read_rebuild : (calls : List Rebuild) (number : ℕ) (asked : Asked) (read : Rebuild) → option_map Asked.OfRepairer (slice_get calls number) ≡ Some asked → read ≡ get_or calls number read → asked ≡ Asked.OfRepairer read
-read_rebuild [] number asked read next is = absurd (true≢false (sym (ap is_some next)))
-read_rebuild (x ∷ calls) zero asked read next is = same_Some asked (Asked.OfRepairer x) (sym next) ∙ ap Asked.OfRepairer (sym is)
-read_rebuild (x ∷ calls) (suc number) asked read next is = read_rebuild calls number asked read next is
+-- what is read under a number is what is asked there
+pub read_asked : {X : Type 0} (as_asked : X → Asked) (calls : List X) (number : ℕ) (asked : Asked) (read : X) → option_map as_asked (slice_get calls number) ≡ Some asked → read ≡ get_or calls number read → asked ≡ as_asked read
+read_asked as_asked [] number asked read next is = absurd (true≢false (sym (ap is_some next)))
+read_asked as_asked (x ∷ calls) zero asked read next is = same_Some asked (as_asked x) (sym next) ∙ ap as_asked (sym is)
+read_asked as_asked (x ∷ calls) (suc number) asked read next is = read_asked as_asked calls number asked read next is
 
-pub is_there : (calls : List Rebuild) (number : ℕ) (asked : Asked) → option_map Asked.OfRepairer (slice_get calls number) ≡ Some asked → number < length calls
-is_there [] number asked next = absurd (true≢false (sym (ap is_some next)))
-is_there (x ∷ calls) zero asked next = omega arith
-is_there (x ∷ calls) (suc number) asked next =
-    let below : number < length calls = is_there calls number asked next in
+pub is_there : {X : Type 0} (as_asked : X → Asked) (calls : List X) (number : ℕ) (asked : Asked) → option_map as_asked (slice_get calls number) ≡ Some asked → number < length calls
+is_there as_asked [] number asked next = absurd (true≢false (sym (ap is_some next)))
+is_there as_asked (x ∷ calls) zero asked next = omega arith
+is_there as_asked (x ∷ calls) (suc number) asked next =
+    let below : number < length calls = is_there as_asked calls number asked next in
     omega (arith, below)

@@ -1,8 +1,10 @@
 -- What an actor is after its call's step, where the call goes on and where it is over.
-use Rattle.std.proofs.Common.{◌≡◌, ℕ, zero, suc, ◌+◌, Bool, true, false, if◌then◌else◌, List, [], ◌∷◌, ◌++◌, length, replicate, nat_lt, Option, None, Some, refl, sym, ap, ◌∙◌, true≢false, arith, lt-ltb, ◌||◌}
+use Rattle.std.proofs.Common.{◌≡◌, ℕ, zero, suc, ◌+◌, Bool, true, false, if◌then◌else◌, List, [], ◌∷◌, ◌++◌, length, map, replicate, nat_lt, Option, None, Some, IfSome, refl, sym, ap, subst, ◌∙◌, true≢false, arith, lt-ltb, ◌||◌}
 use Rattle.std.specs.Prelude.{unwrap_or}
 use Rattle.std.specs.List.{list_any}
+use Rattle.clay_grid.specs.Shape.{chunk_count}
 use Rattle.store_core.specs.Act.{Act, Outcome}
+use Rattle.store_core.specs.Agreement.{Seat}
 use Rattle.store_core.specs.Work.{Ended}
 use Rattle.run_laws.specs.State.{State}
 use Rattle.run_laws.specs.StateActs.{act_at}
@@ -12,10 +14,14 @@ use Rattle.world_laws.specs.World.{DoingOf, ActorOf, steps_of}
 use Rattle.world_laws.specs.ActorAfter.{actor_after_by, actor_after}
 use Rattle.call_steps.specs.declared.need.Need.{Need}
 use Rattle.call_steps.specs.declared.need.Need.TheVariants as need
-use Rattle.call_machine.specs.Kinds.{Machine}
+use Rattle.call_machine.specs.Kinds.{Machine, machine_of}
 use Rattle.call_machine.specs.Calls.{MachineOf}
+use Rattle.call_steps.specs.CallerCalls.{ended_of}
+use Rattle.call_steps.specs.declared.caller_calls.EndedCall.{EndedCall}
 use Rattle.actors.specs.Turns.{GoesOn}
 use Rattle.actors.specs.Owing.{AreServed, left_by}
+use Rattle.actors.specs.Concluded.{IsConcluded}
+use Rattle.actors.specs.Inside.{served_of}
 
 -- a call that has its outcome has ended, and its actor waits
 pub over_after : (c : CallOf) (a : ActorOf) (outcome : Outcome) → c.state.at ≡ State.Finished outcome
@@ -83,3 +89,18 @@ is_left c goes = stays_left (act_of c.call) c.call.due c goes
 pub made_step : (c : CallOf) (a : ActorOf) (ended : List Ended) (steps : ℕ) → GoesOn (need_of c) → a.ended ≡ ended → steps_of a.doing ≡ steps
     → record { ended = ended; doing = DoingOf.InCall c (steps + 1) } ≡ actor_after c a
 made_step c a ended steps goes is made = (λ i. record { ended = sym is i; doing = DoingOf.InCall c (sym made i + 1) }) ∙ sym (goes_on_after c a goes)
+
+-- so a caller is in the same call, of one step more
+pub concluded_on : (c : MachineOf) (steps : ℕ) (ended : List EndedCall) (slot : Option MachineOf) (place : Option Seat) → slot ≡ Some c → place ≡ None → IfSome slot (λ (x : MachineOf). GoesOn (need_of x.call))
+    → IsConcluded c steps ended ended slot place (steps + 1)
+concluded_on c steps ended slot place is no_seat goes_so =
+    let on : GoesOn (need_of c.call) = subst (λ (o : Option MachineOf). IfSome o (λ (x : MachineOf). GoesOn (need_of x.call))) is goes_so in
+    subst (λ (o : Option MachineOf). IsConcluded c steps ended ended o place (steps + 1)) (sym is)
+    (subst (λ (s : Option Seat). IsConcluded c steps ended ended (Some c) s (steps + 1)) (sym no_seat)
+    (record {
+      actor = λ a same count. made_step c.call a (map (ended_of (chunk_count c.call.book.geometry)) ended) steps on same count;
+      served = none_served c.call (machine_of c.asked) c.owed (served_of ended) on;
+      work = is_left c on;
+      goes = (refl, on, refl);
+      either = tt;
+    }))
