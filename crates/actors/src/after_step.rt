@@ -30,25 +30,14 @@ pub(crate) fn take<T>(place: &mut Option<T>) -> T
     }
 }
 
-/// Puts a call where none stands.
-pub(crate) fn put_call<'a>(place: &mut Option<CallMachine<'a>>, call: CallMachine<'a>)
+/// Puts a value where none stands.
+pub(crate) fn put<T>(place: &mut Option<T>, value: T)
     requires { place.old ≡ None }
-    ensures { place.new ≡ Some call.entry }
+    ensures { place.new ≡ Some value }
 {
-    match place.replace(call) {
+    match place.replace(value) {
         None => {}
-        Some(_call) => unreachable!(),
-    }
-}
-
-/// Puts a seat where none stands.
-pub(crate) fn put_seat(place: &mut Option<Seat>, seat: Seat)
-    requires { place.old ≡ None }
-    ensures { place.new ≡ Some seat }
-{
-    match place.replace(seat) {
-        None => {}
-        Some(_seat) => unreachable!(),
+        Some(_value) => unreachable!(),
     }
 }
 
@@ -98,7 +87,7 @@ fn end_call<'a>(
     ensures room { vec_capacity ended.new ≡ vec_capacity ended.old }
 {
     let back = over(take(call), ended);
-    put_seat(seat, back);
+    put(seat, back);
     *steps = 0;
 }
 

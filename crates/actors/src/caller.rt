@@ -24,7 +24,7 @@ ghost use Rattle.actors.specs.Steps.{BeginsCall, IsReadyIn, MadeAtDirectory, Mad
 ghost use Rattle.actors.specs.CallerTurns.{HasMore, TellsCallerTurn};
 ghost use Rattle.actors.specs.Inside.{AreOfServers, part_by, served_of};
 
-use crate::after_step::{conclude, put_call, take};
+use crate::after_step::{conclude, put, take};
 use crate::left::has_step;
 use crate::next_call::next_call;
 use crate::part::Part;
@@ -140,7 +140,7 @@ impl<'a> Caller<'a> {
             &self.opening,
             self.tries,
         );
-        put_call(&mut self.call, call);
+        put(&mut self.call, call);
         self.steps = 0;
     }
 

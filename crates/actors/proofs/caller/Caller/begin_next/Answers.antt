@@ -26,8 +26,8 @@ returns c =
     let number : _ = c.len-number.ensures ∙ a.ended.ok.0 in
     record {
       begun =
-          begins_here (part_by a.part) a.opening a.tries a.ended.items c.args.self.now a.seat c.take-seat.new.place c.put_call.new.place c.args.place a.steps c.take-seat.result c.next_call-call.result view
-          c.take-seat.ensures.taken c.take-seat.ensures.gone c.put_call.ensures
+          begins_here (part_by a.part) a.opening a.tries a.ended.items c.args.self.now a.seat c.take-seat.new.place c.put.new.place c.args.place a.steps c.take-seat.result c.next_call-call.result view
+          c.take-seat.ensures.taken c.take-seat.ensures.gone c.put.ensures
           (subst (λ (n : ℕ). MayTake a.opening a.tries c.args.place n (part_by a.part) c.take-seat.result) number
           (may_take (part_by a.part) a.opening a.tries c.args.place c.len-number.result a.ended.items a.seat c.take-seat.result a.steps c.args.self.now view c.take-seat.ensures.taken c.requires.may c.self.invariant.tries
           c.self.invariant.below number))
