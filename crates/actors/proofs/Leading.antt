@@ -2,18 +2,19 @@
 use Rattle.std.proofs.Common.{◌≡◌, [], ◌∷◌, ℕ, refl, sym, ap, subst, ◌∙◌}
 use Rattle.store_map.specs.declared.script.Script.{Script}
 use Rattle.store_map.specs.declared.actor.Actor.{Actor}
+use Rattle.store_map.specs.declared.actor.Actor.TheVariants as actor
 use Rattle.store_core.specs.Directory.{Directory}
 use Rattle.store_core.specs.Server.{Server}
 use Rattle.store_core.specs.Agreement.{Agrees}
 use Rattle.store_core.specs.Step.{Places}
-use Rattle.store_core.specs.Run.{Run}
+use Rattle.store_core.specs.Run.{Run, client_step, repairer_step}
 use Rattle.store_core.specs.Work.{Work}
 use Rattle.call_steps.specs.declared.need.Need.{Need}
 use Rattle.call_steps.specs.declared.need.Need.TheVariants as need
 use Rattle.call_steps.specs.CallOf.{CallOf}
 use Rattle.call_steps.specs.Steps.{need_of, stepped_at_directory, stepped_at_server}
 use Rattle.call_steps.specs.Ready.{ready, shortage_of}
-use Rattle.world_laws.specs.World.{ActorOf, WorldOf, with_directory, with_server}
+use Rattle.world_laws.specs.World.{ActorOf, WorldOf, with_client, with_directory, with_repairer, with_server}
 use Rattle.world_laws.specs.ActorAfter.{actor_after}
 use Rattle.world_laws.specs.Leads.{LeadsWorld}
 use Rattle.world_laws.specs.Tokens.{TokensAgree}
@@ -21,6 +22,9 @@ use Rattle.world_laws.specs.TurnLaws.{MakesTurns}
 use Rattle.world_laws.specs.TokenLaws.{TurnsAgree}
 use Rattle.actors.specs.Turns.{IsMadeAt, IsMadeAtDirectory, IsMadeAtServer}
 use Rattle.actors.specs.Turned.{MakesTurn, Leads, places_in, with_places}
+use Rattle.world_laws.proofs.Agreed.{worlds_stay_agreed}
+use Rattle.world_laws.proofs.TurnLaws.{clients_make_turns, repairers_make_turns}
+use Rattle.actors.specs.LeadLaws.{AllTurnsLead}
 
 module _ (script : Script) (part : Run → Run) (who : Actor) (work : Work) (a after : ActorOf) (put : ActorOf → WorldOf → WorldOf) (w : WorldOf) (q : Places) (makes : MakesTurns script part who work a put w) (stays : TurnsAgree script who a put w) (m : MakesTurn script who work a (places_in w) after q) where
   abbrev now : CallOf
@@ -60,3 +64,15 @@ module _ (script : Script) (part : Run → Run) (who : Actor) (work : Work) (a a
 
   pub turn_leads : Leads script part w (shortage_of m.turn.coding m.turn.short m.call ∷ []) (put after (with_places q w))
   turn_leads = by_need (need_of now) refl m.turn.made
+
+-- so it is in every world
+pub all_turns_lead : AllTurnsLead
+all_turns_lead script i w agree =
+    record {
+      client = λ work a after q is_work is_a makes.
+          turn_leads script (client_step script i) (actor.Client i) work a after (with_client i) w q ((clients_make_turns script i w).turns work a is_work is_a)
+          ((worlds_stay_agreed script w agree).client i a is_a) makes;
+      repairer = λ work a after q is_work is_a makes.
+          turn_leads script (repairer_step script i) (actor.Repairer i) work a after (with_repairer i) w q ((repairers_make_turns script i w).turns work a is_work is_a)
+          ((worlds_stay_agreed script w agree).repairer i a is_a) makes;
+    }

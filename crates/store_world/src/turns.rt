@@ -10,10 +10,8 @@ ghost use Rattle.store_world.specs.Telling.{LeadsTold, steps_in};
 
 use crate::world::World;
 use actors::Caller;
-use actors::laws::turns_lead;
 use call_steps::Step;
 use clay_model::Coder;
-use client_patch::laws::bytes_of_the_map_are_padded;
 use std::thread::Threads;
 
 // Whether there is such a caller and it has a step.
@@ -42,8 +40,6 @@ impl<'a> World<'a> {
         ensures same { self.new.script ≡ self.old.script }
         ensures same_book { self.new.book ≡ self.old.book }
     {
-        turns_lead();
-        bytes_of_the_map_are_padded();
         self.directory.keeps();
         if !has_step(&self.clients, i) {
             return None;
@@ -72,8 +68,6 @@ impl<'a> World<'a> {
         ensures same { self.new.script ≡ self.old.script }
         ensures same_book { self.new.book ≡ self.old.book }
     {
-        turns_lead();
-        bytes_of_the_map_are_padded();
         self.directory.keeps();
         if !has_step(&self.repairers, i) {
             return None;

@@ -2,6 +2,8 @@ use Rattle.std.proofs.Common.{◌≡◌, [], ◌∷◌, set, slice_get, Some, su
 use Rattle.store_map.specs.declared.actor.Token.TheVariants as token
 use Rattle.store_core.specs.Run.{client_step}
 use Rattle.world_laws.specs.Goes.{Leads}
+use Rattle.client_patch.proofs.Padding.{bytes_are_padded}
+use Rattle.actors.proofs.Leading.{all_turns_lead}
 use Rattle.store_world.specs.Stored.{StoredWorld, world_of}
 use Rattle.store_world.specs.Telling.{LeadsTold}
 use Rattle.store_world.specs.Inside.{stored_in}
@@ -87,7 +89,7 @@ invariant_of-self g c =
     got c.self.inside.clients.items c.args.i c.index_mut.result.now (there_of c.self.inside.clients.items c.deref.result.now c.deref.ensures.value c.args.i c.has_step.result c.has_step.ensures.there c.if-not-has_step.false) c.index_mut.ensures.value in
     let ready : HasTurnNow (stored_in c.self.inside) c.args.i c.index_mut.result.now =
     ready_client (stored_in c.self.inside) c.self.invariant c.args.i c.index_mut.result.now there c.has_step.result (has_of c.self.inside.clients.items c.deref.result.now c.deref.ensures.value c.args.i c.has_step.result c.has_step.ensures.has) c.if-not-has_step.false in
-    client_kept c.turns_lead.ensures (stored_in c.self.inside) c.self.invariant c.args.i c.index_mut.result.now c.turn-step.new.self there c.turn-step.new.directory c.turn-step.new.servers.items
+    client_kept all_turns_lead (stored_in c.self.inside) c.self.invariant c.args.i c.index_mut.result.now c.turn-step.new.self there c.turn-step.new.directory c.turn-step.new.servers.items
     (c.turn-step.ensures.turn c.self.inside.script.now ready.turn.of_script ready.has).turn c.turn-step.ensures.same
     (have_contents (stored_in c.self.inside) c.self.invariant c.keeps.ensures.stamps) c.turn-step.ensures.knows c.turn-step.ensures.book c.turn-step.ensures.stamps c.turn-step.ensures.servers
 
@@ -97,7 +99,7 @@ returns-clause-leads g c =
     got c.self.inside.clients.items c.args.i c.index_mut.result.now (there_of c.self.inside.clients.items c.deref.result.now c.deref.ensures.value c.args.i c.has_step.result c.has_step.ensures.there c.if-not-has_step.false) c.index_mut.ensures.value in
     let ready : HasTurnNow (stored_in c.self.inside) c.args.i c.index_mut.result.now =
     ready_client (stored_in c.self.inside) c.self.invariant c.args.i c.index_mut.result.now there c.has_step.result (has_of c.self.inside.clients.items c.deref.result.now c.deref.ensures.value c.args.i c.has_step.result c.has_step.ensures.has) c.if-not-has_step.false in
-    let leads : _ = client_leads c.turns_lead.ensures (stored_in c.self.inside) c.self.invariant c.args.i c.index_mut.result.now c.turn-step.new.self there c.turn-step.new.directory c.turn-step.new.servers.items (c.turn-step.ensures.turn c.self.inside.script.now ready.turn.of_script ready.has).turn in
+    let leads : _ = client_leads all_turns_lead (stored_in c.self.inside) c.self.invariant c.args.i c.index_mut.result.now c.turn-step.new.self there c.turn-step.new.directory c.turn-step.new.servers.items (c.turn-step.ensures.turn c.self.inside.script.now ready.turn.of_script ready.has).turn in
     subst
     (λ (v : StoredWorld). Leads v.script (client_step v.script c.args.i) (world_of v)
     (world_of (changed (stored_in c.self.inside) c.turn-step.new.directory c.turn-step.new.servers.items (set c.self.inside.clients.items c.args.i c.turn-step.new.self) c.self.inside.repairers.items c.self.inside.sweeper)))
@@ -105,7 +107,7 @@ returns-clause-leads g c =
 
 pub turn-step-requires-clause-padded : goal.turn-step-requires-clause-padded
 turn-step-requires-clause-padded g c κs within =
-    are_padded (stored_in c.self.inside) c.self.invariant c.bytes_of_the_map_are_padded.ensures c.keeps.ensures.whole.sound c.keeps.ensures.stamps
+    are_padded (stored_in c.self.inside) c.self.invariant bytes_are_padded c.keeps.ensures.whole.sound c.keeps.ensures.stamps
 
 pub returns-then-not-has_step-clause-told : goal.returns-then-not-has_step-clause-told
 returns-then-not-has_step-clause-told g c =
@@ -119,7 +121,7 @@ returns-clause-told g c =
     got c.self.inside.clients.items c.args.i c.index_mut.result.now (there_of c.self.inside.clients.items c.deref.result.now c.deref.ensures.value c.args.i c.has_step.result c.has_step.ensures.there c.if-not-has_step.false) c.index_mut.ensures.value in
     let ready : HasTurnNow (stored_in c.self.inside) c.args.i c.index_mut.result.now =
     ready_client (stored_in c.self.inside) c.self.invariant c.args.i c.index_mut.result.now there c.has_step.result (has_of c.self.inside.clients.items c.deref.result.now c.deref.ensures.value c.args.i c.has_step.result c.has_step.ensures.has) c.if-not-has_step.false in
-    let told : _ = client_told c.turns_lead.ensures (stored_in c.self.inside) c.self.invariant c.args.i c.index_mut.result.now c.turn-step.new.self there c.turn-step.new.directory c.turn-step.new.servers.items c.turn-step.result
+    let told : _ = client_told all_turns_lead (stored_in c.self.inside) c.self.invariant c.args.i c.index_mut.result.now c.turn-step.new.self there c.turn-step.new.directory c.turn-step.new.servers.items c.turn-step.result
     (c.turn-step.ensures.turn c.self.inside.script.now ready.turn.of_script ready.has) in
     subst
     (λ (v : StoredWorld). LeadsTold (token.Client c.args.i) v
