@@ -54,21 +54,22 @@ use Rattle.call_machine.specs.Owes.{OwesBy}
 use Rattle.call_machine.specs.OwesLaws.{AreAmong}
 use Rattle.call_machine.proofs.Owing.{at_end_owes}
 use Rattle.call_machine.proofs.Stamped.{contents_read}
-use Rattle.call_machine.specs.Ends.{IfBytesServed}
+use Rattle.call_machine.specs.Ends.{IfBytesServed, IsEndOf}
 use Rattle.session_rules.proofs.Maps.{bytes_are_owed}
 use Rattle.session_rules.proofs.Clients.{of_client}
 use Rattle.session_rules.proofs.RunKept.{begins}
 use Rattle.call_steps.specs.declared.outcome.CallOutcome.TheVariants as ended
+use Rattle.call_steps.specs.Outcomes.{outcome_of}
+use Rattle.call_steps.specs.declared.outcomes.Outcome.{Outcome}
 use Rattle.call_steps.specs.declared.outcomes.Outcome.TheVariants as client
 use Rattle.store_core.specs.Lookups.{same_actor}
-use Rattle.session_rules.specs.Calls.{serve_call}
 use Rattle.session_store.specs.Answers.{AnswersCall}
 use Rattle.session_store.specs.Kept.{HasSeat, ServesRequest}
 use Rattle.session_store.specs.Serving.{Serves}
 use Rattle.session_store.specs.Standing.{AreKept}
 use Rattle.session_store.specs.Running.{IsLow}
 use Rattle.session_store.proofs.Numbers.{known_fresh, passed_over}
-use Rattle.session_store.proofs.Outcomes.{answer_is, wanting_is, call_answer, replied_in}
+use Rattle.session_store.proofs.Outcomes.{ends_as_client, call_served, ends_call}
 use Rattle.session_store.proofs.Seating.{tickets_still}
 use Rattle.session_store.proofs.Standing.{call_epochs, later_epochs}
 use Rattle.session_store.specs.declared.parts.Parts.{Parts}
@@ -83,8 +84,7 @@ use Rattle.session_store.specs.Sweeping.{HasSwept}
 use Rattle.session_store.proofs.Bounds.{steps_few}
 use Rattle.session_store.proofs.Knowing.{more, between_more, contents_more}
 use Rattle.session_store.proofs.Numbers.{known_now}
-use Rattle.session_store.specs.Ends.{EndsCall}
-use Rattle.session_store.proofs.Outcomes.{ends_call}
+use Rattle.session_store.specs.Ends.{EndsCall, IsOfClient}
 use Rattle.session_store.proofs.Tries.{NoWrite, same_act, same_steps}
 
 -- a list of one
@@ -173,8 +173,14 @@ module _ (parts : Parts) (is : IsStore (store_of parts)) (written : Call) (seat 
         (steps_few parts.places.book.geometry (store_of parts).max is.code is.wide is.small (note_of written) short (tries_in (client_machine written) 1 parts.places.book) (job_of written) (tries_few written parts.places.book is.free.1) refl));
   }
 
+  pub ends_so : (c : MachineOf) (left : SessionPlaces) → HasRunTo first parts.places c left → (outcome : CallOutcome) → IsEndOf (machine_of c.asked) outcome → IsOfClient outcome
+  ends_so c left ran outcome its = ends_as_client written outcome (subst (λ a. IsEndOf (machine_of a) outcome) (ran.asked ∙ asked_is) its)
+
   -- ---- the call, and the sweeper after it
-  module _ (c : MachineOf) (left now : SessionPlaces) (ran : HasRunTo first parts.places c left) (outcome : CallOutcome) (over : act_of c.call ≡ Act.Finish (call_outcome_of outcome)) (swept : HasSwept left now) where
+  module _ (c : MachineOf) (left now : SessionPlaces) (ran : HasRunTo first parts.places c left) (ended_as : CallOutcome) (over_so : act_of c.call ≡ Act.Finish (call_outcome_of ended_as)) (outcome : Outcome) (told_is : ended_as ≡ ended.Client outcome) (swept : HasSwept left now) where
+    over : act_of c.call ≡ Act.Finish (outcome_of outcome)
+    over = over_so ∙ ap (λ o. Act.Finish (call_outcome_of o)) told_is
+
     abbrev g : Shape
     g = parts.places.book.geometry
 
@@ -192,10 +198,10 @@ module _ (parts : Parts) (is : IsStore (store_of parts)) (written : Call) (seat 
     end_by tries = wanting_steps g tries (actor.Client 0) parts.served (job_of written) shortages (record { call = first_state; places = seen_in parts.places })
 
     abbrev EndedBy : ℕ → Type 0
-    EndedBy tries = (act_of_state g tries (job_of written) (end_by tries).call ≡ Act.Finish (call_outcome_of outcome)) × ((end_by tries).places ≡ seen_in left)
+    EndedBy tries = (act_of_state g tries (job_of written) (end_by tries).call ≡ Act.Finish (outcome_of outcome)) × ((end_by tries).places ≡ seen_in left)
 
     ended_first : EndedBy first.call.tries
-    ended_first = (calls_run_alone.ends g first.call.tries (actor.Client 0) parts.served (job_of written)).run shortages (seen_in parts.places) (seen_in left) c.call (call_outcome_of outcome) over ran.uncoded run_first
+    ended_first = (calls_run_alone.ends g first.call.tries (actor.Client 0) parts.served (job_of written)).run shortages (seen_in parts.places) (seen_in left) c.call (outcome_of outcome) over ran.uncoded run_first
 
     ended_once : EndedBy 1
     ended_once = by (once written)
@@ -216,7 +222,7 @@ module _ (parts : Parts) (is : IsStore (store_of parts)) (written : Call) (seat 
               ap (λ (w : AtWork). w.places) (sym same) ∙ ended_first.1,
             )
 
-    runs_to : RunsTo g 1 (actor.Client 0) parts.served (job_of written) (seen_in parts.places) (call_outcome_of outcome) (seen_in now)
+    runs_to : RunsTo g 1 (actor.Client 0) parts.served (job_of written) (seen_in parts.places) (outcome_of outcome) (seen_in now)
     runs_to = record {
       shortages = shortages;
       over = ended_once.0;
@@ -224,13 +230,13 @@ module _ (parts : Parts) (is : IsStore (store_of parts)) (written : Call) (seat 
     }
 
     module _ (s : State) (at : StandsAt (store_of parts) s) where
-      pub is_answered : (answered : IsAnswered (more (store_of parts) (asked_of written) s at) g (store_of parts).max (seats_at parts.served) s (Request.OfMap written) (seen_in now)) × (call_outcome_of outcome ≡ outcome_at (length parts.places.directory.core.points) answered.served.1)
+      pub is_answered : (answered : IsAnswered (more (store_of parts) (asked_of written) s at) g (store_of parts).max (seats_at parts.served) s (Request.OfMap written) (seen_in now)) × (outcome_of outcome ≡ outcome_at (length parts.places.directory.core.points) answered.served.1)
       is_answered =
-          calls_are_answered (more (store_of parts) (asked_of written) s at) g (store_of parts).max 1 (seats_at parts.served) at.stands (seen_in parts.places) (seen_in now) s written (call_outcome_of outcome) is.wide (omega arith)
+          calls_are_answered (more (store_of parts) (asked_of written) s at) g (store_of parts).max 1 (seats_at parts.served) at.stands (seen_in parts.places) (seen_in now) s written (outcome_of outcome) is.wide (omega arith)
           (between_more (store_of parts) (asked_of written) s at) (known_now at.calls parts.served (asked_of written) 0) runs_to
 
-    pub ends_well : EndsCall (call_outcome_of outcome)
-    ends_well = let its = is_answered is.state is.stands in ends_call (call_outcome_of outcome) (length parts.places.directory.core.points) its.0.served.1 its.1
+    pub ends_well : EndsCall (outcome_of outcome)
+    ends_well = let its = is_answered is.state is.stands in ends_call g (store_of parts).max is.state written its.0.served its.0.allowed outcome (length parts.places.directory.core.points) its.1
 
     -- ---- what the call is served
     -- what its look owes
@@ -292,16 +298,16 @@ module _ (parts : Parts) (is : IsStore (store_of parts)) (written : Call) (seat 
           ∙ sym stamped ∙ sym (ap (λ (x : ℕ × List ℕ). x.1) one)
       among_by (inr none) place bytes given within is_given = absurd (none_contained (place, bytes) (subst (λ (l : List (ℕ × List ℕ)). Contains l (place, bytes)) none within))
 
-      pub served_bytes : IfReads (machine_of c.asked) (IfBytesServed outcome (λ bytes. bytes.items ≡ c.owed)) → (p : Point) (bytes : Vec ℕ Global) (given : List ℕ) → outcome ≡ ended.Client (client.Served p bytes) →
+      served_bytes : IfReads (machine_of c.asked) (IfBytesServed ended_as (λ bytes. bytes.items ≡ c.owed)) → (p : Point) (bytes : Vec ℕ Global) (given : List ℕ) → outcome ≡ client.Served p bytes →
           (apply (store_of parts).max written s.objects).1 ≡ reply.Bytes given → given ≡ bytes.items
       served_bytes served p bytes given is_served is_given =
           let owes : OwesBy (AreAmong (owed_by looked)) c = ran.owes (owed_by looked) look_owes in
-          let at_end = at_end_owes (AreAmong (owed_by looked)) c p.0 owes (over ∙ ap (λ o. Act.Finish (call_outcome_of o)) is_served) in
-          let its : bytes.items ≡ c.owed = subst (λ o. IfBytesServed o (λ bytes. bytes.items ≡ c.owed)) is_served (subst (λ m. IfReads m (IfBytesServed outcome (λ bytes. bytes.items ≡ c.owed))) at_end.0 served) in
+          let at_end = at_end_owes (AreAmong (owed_by looked)) c p.0 owes (over ∙ ap (λ o. Act.Finish (outcome_of o)) is_served) in
+          let its : bytes.items ≡ c.owed = subst (λ o. IfBytesServed o (λ bytes. bytes.items ≡ c.owed)) (told_is ∙ ap (λ o. ended.Client o) is_served) (subst (λ m. IfReads m (IfBytesServed ended_as (λ bytes. bytes.items ≡ c.owed))) at_end.0 served) in
           among_by (pins_or looked) p.0 c.owed given at_end.1 is_given ∙ sym its
 
     -- ---- what it leaves
-    module _ (seat_now : Seat) (seat_after : ActorToken.Seated seat_now ≡ c.call.token) (served : IfReads (machine_of c.asked) (IfBytesServed outcome (λ bytes. bytes.items ≡ c.owed))) (answer : Answer) (answers : AnswersCall outcome answer) where
+    module _ (seat_now : Seat) (seat_after : ActorToken.Seated seat_now ≡ c.call.token) (served : IfReads (machine_of c.asked) (IfBytesServed ended_as (λ bytes. bytes.items ≡ c.owed))) (answer : Answer) (answers : AnswersCall outcome answer) where
       abbrev parts_after : Parts
       parts_after = record parts { places = now; served = parts.served + 1; client = Some seat_now }
 
@@ -321,21 +327,7 @@ module _ (parts : Parts) (is : IsStore (store_of parts)) (written : Call) (seat 
 
         -- the answer is the session's
         served_so : IsServed g (store_of parts).max (Request.OfMap written) s (its.served.0, answer)
-        served_so = by its.allowed
-          where
-            by : (its.served ≡ serve g (store_of parts).max (Request.OfMap written) s) ⊎ ((its.served.1 ≡ Answer.NoMemory) × (its.served.0 ≡ s)) → IsServed g (store_of parts).max (Request.OfMap written) s (its.served.0, answer)
-            by (inr (none, same)) = inr (wanting_is outcome (length parts.places.directory.core.points) answer ((is_answered s at).1 ∙ ap (outcome_at (length parts.places.directory.core.points)) none) answers, same)
-            by (inl e) = either
-                (answer_is outcome (length parts.places.directory.core.points) (serve_call g (store_of parts).max written s).1 answer (serve_call g (store_of parts).max written s).0 s (call_answer g (store_of parts).max s written)
-                ((is_answered s at).1 ∙ ap (λ (r : State × Answer). outcome_at (length parts.places.directory.core.points) r.1) e) answers
-                (λ p bytes given is_served is_reply. served_bytes s at served p bytes given is_served (reply_is is_reply)))
-              where
-                either : (answer ≡ (serve_call g (store_of parts).max written s).1) ⊎ ((answer ≡ Answer.NoMemory) × ((serve_call g (store_of parts).max written s).0 ≡ s)) → IsServed g (store_of parts).max (Request.OfMap written) s (its.served.0, answer)
-                either (inl same) = inl (λ i. (ap (λ (r : State × Answer). r.0) e i, same i))
-                either (inr (none, same)) = inr (none, ap (λ (r : State × Answer). r.0) e ∙ same)
-
-                reply_is : {given : List ℕ} → (serve_call g (store_of parts).max written s).1 ≡ Answer.Replied (reply.Bytes given) → (apply (store_of parts).max written s.objects).1 ≡ reply.Bytes given
-                reply_is is_reply = replied_in g (store_of parts).max s written is_reply
+        served_so = call_served g (store_of parts).max s written its.served its.allowed outcome (length parts.places.directory.core.points) (is_answered s at).1 answer answers (served_bytes s at served)
 
         -- what requests of other kinds see stays
         kept_by : {X : Type 0} (f : State → X) → f (serve g (store_of parts).max (Request.OfMap written) s).0 ≡ f s → f its.served.0 ≡ f s

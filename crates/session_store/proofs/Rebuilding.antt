@@ -32,11 +32,15 @@ use Rattle.session_rules.proofs.Answers.{rebuild_next, rebuild_snapshot}
 use Rattle.session_rules.proofs.Repairs.{has_parity}
 use Rattle.call_steps.specs.CallOf.{act_of}
 use Rattle.call_machine.specs.Calls.{MachineOf, first_call, tries_in}
-use Rattle.call_machine.specs.Kinds.{Asked, Machine}
+use Rattle.call_machine.specs.Ends.{IsEndOf}
+use Rattle.call_machine.specs.Kinds.{Asked, Machine, machine_of}
 use Rattle.session_store.specs.AtWork.{HasRun}
 use Rattle.session_store.proofs.AloneRunning.{calls_run_alone}
 use Rattle.call_steps.specs.CallOutcomes.{call_outcome_of}
+use Rattle.call_steps.specs.Outcomes.{repair_outcome_of}
 use Rattle.call_steps.specs.declared.outcome.CallOutcome.{CallOutcome}
+use Rattle.call_steps.specs.declared.outcome.CallOutcome.TheVariants as ended
+use Rattle.call_steps.specs.declared.outcomes.RepairOutcome.{RepairOutcome}
 use Rattle.store_core.specs.Lookups.{same_actor}
 use Rattle.session_rules.specs.Rebuilds.{rebuild}
 use Rattle.session_store.specs.Answers.{AnswersRebuild}
@@ -46,7 +50,7 @@ use Rattle.session_store.specs.Serving.{Serves}
 use Rattle.session_store.specs.Standing.{AreKept}
 use Rattle.session_store.specs.Running.{IsLow}
 use Rattle.session_store.proofs.Numbers.{fresh_later, passed_over}
-use Rattle.session_store.proofs.RebuildOutcomes.{rebuild_answer, rebuild_is, rebuild_wanting, wanting_number, ends_rebuild}
+use Rattle.session_store.proofs.RebuildOutcomes.{rebuild_served, ends_rebuild}
 use Rattle.session_store.proofs.Seating.{tickets_still}
 use Rattle.session_store.proofs.Standing.{rebuild_epochs, later_epochs}
 use Rattle.session_store.specs.declared.parts.Parts.{Parts}
@@ -101,8 +105,14 @@ module _ (parts : Parts) (is : IsStore (store_of parts)) (it : RebuildCall) (bel
         (rebuild_steps_few parts.places.book.geometry parts.places.directory.core.max (tries_in Machine.Rebuilds 1 parts.places.book) (rebuild_job it) is.code refl);
   }
 
+  pub ends_so : (c : MachineOf) (left : SessionPlaces) → HasRunTo first parts.places c left → (outcome : CallOutcome) → IsEndOf (machine_of c.asked) outcome → IsEndOf Machine.Rebuilds outcome
+  ends_so c left ran outcome its = subst (λ a. IsEndOf (machine_of a) outcome) (ran.asked ∙ asked_is) its
+
   -- ---- the rebuild, and the sweeper after it
-  module _ (c : MachineOf) (left now : SessionPlaces) (ran : HasRunTo first parts.places c left) (outcome : CallOutcome) (over : act_of c.call ≡ Act.Finish (call_outcome_of outcome)) (swept : HasSwept left now) where
+  module _ (c : MachineOf) (left now : SessionPlaces) (ran : HasRunTo first parts.places c left) (ended_as : CallOutcome) (over_so : act_of c.call ≡ Act.Finish (call_outcome_of ended_as)) (outcome : RepairOutcome) (told_is : ended_as ≡ ended.Rebuild outcome) (swept : HasSwept left now) where
+    over : act_of c.call ≡ Act.Finish (repair_outcome_of outcome)
+    over = over_so ∙ ap (λ o. Act.Finish (call_outcome_of o)) told_is
+
     abbrev g : Shape
     g = parts.places.book.geometry
 
@@ -118,10 +128,10 @@ module _ (parts : Parts) (is : IsStore (store_of parts)) (it : RebuildCall) (bel
     abbrev end : AtWork
     end = wanting_steps g tries (actor.Repairer 0) parts.served (rebuild_job it) ran.shortages (record { call = first_state; places = seen_in parts.places })
 
-    has_ended : (act_of_state g tries (rebuild_job it) end.call ≡ Act.Finish (call_outcome_of outcome)) × (end.places ≡ seen_in left)
-    has_ended = (calls_run_alone.ends g tries (actor.Repairer 0) parts.served (rebuild_job it)).run ran.shortages (seen_in parts.places) (seen_in left) c.call (call_outcome_of outcome) over ran.uncoded run_first
+    has_ended : (act_of_state g tries (rebuild_job it) end.call ≡ Act.Finish (repair_outcome_of outcome)) × (end.places ≡ seen_in left)
+    has_ended = (calls_run_alone.ends g tries (actor.Repairer 0) parts.served (rebuild_job it)).run ran.shortages (seen_in parts.places) (seen_in left) c.call (repair_outcome_of outcome) over ran.uncoded run_first
 
-    runs_to : RunsTo g tries (actor.Repairer 0) parts.served (rebuild_job it) (seen_in parts.places) (call_outcome_of outcome) (seen_in now)
+    runs_to : RunsTo g tries (actor.Repairer 0) parts.served (rebuild_job it) (seen_in parts.places) (repair_outcome_of outcome) (seen_in now)
     runs_to = record {
       shortages = ran.shortages;
       over = has_ended.0;
@@ -132,11 +142,11 @@ module _ (parts : Parts) (is : IsStore (store_of parts)) (it : RebuildCall) (bel
     request = Request.Rebuild it.name it.stripe it.server
 
     module _ (s : State) (at : StandsAt (store_of parts) s) where
-      pub is_answered : (answered : IsAnswered at.calls g (store_of parts).max (seats_at parts.served) s request (seen_in now)) × (call_outcome_of outcome ≡ rebuilt_as answered.served.1)
-      is_answered = rebuilds_are_answered at.calls g (store_of parts).max tries (seats_at parts.served) at.stands (seen_in parts.places) (seen_in now) s it.name it.stripe it.server (call_outcome_of outcome) is.wide (has_parity g is.code) below at.between runs_to
+      pub is_answered : (answered : IsAnswered at.calls g (store_of parts).max (seats_at parts.served) s request (seen_in now)) × (repair_outcome_of outcome ≡ rebuilt_as answered.served.1)
+      is_answered = rebuilds_are_answered at.calls g (store_of parts).max tries (seats_at parts.served) at.stands (seen_in parts.places) (seen_in now) s it.name it.stripe it.server (repair_outcome_of outcome) is.wide (has_parity g is.code) below at.between runs_to
 
-    pub ends_well : EndsRebuild (call_outcome_of outcome)
-    ends_well = let its = is_answered is.state is.stands in ends_rebuild (call_outcome_of outcome) its.0.served.1 its.1
+    pub ends_well : EndsRebuild (repair_outcome_of outcome)
+    ends_well = let its = is_answered is.state is.stands in ends_rebuild g (store_of parts).max is.state it.name it.stripe it.server its.0.served its.0.allowed outcome its.1
 
     -- ---- what it leaves
     module _ (seat_now : Seat) (seat_after : ActorToken.Seated seat_now ≡ c.call.token) (answer : Answer) (answers : AnswersRebuild outcome answer) where
@@ -160,16 +170,7 @@ module _ (parts : Parts) (is : IsStore (store_of parts)) (it : RebuildCall) (bel
         made = rebuild g it.stripe it.server s (numbers_of it.name s.numbers)
 
         served_so : IsServed g (store_of parts).max request s (its.served.0, answer)
-        served_so = by its.allowed
-          where
-            by : (its.served ≡ made) ⊎ ((its.served.1 ≡ Answer.NoMemory) × (its.served.0 ≡ s)) → IsServed g (store_of parts).max request s (its.served.0, answer)
-            by (inr (none, same)) = inr (rebuild_wanting outcome answer (wanting_number outcome its.served.1 none (is_answered s at).1) answers, same)
-            by (inl e) = either
-                (rebuild_is outcome made.1 answer made.0 s (rebuild_answer g it.stripe it.server s (numbers_of it.name s.numbers)) ((is_answered s at).1 ∙ ap (λ (r : State × Answer). rebuilt_as r.1) e) answers)
-              where
-                either : (answer ≡ made.1) ⊎ ((answer ≡ Answer.NoMemory) × (made.0 ≡ s)) → IsServed g (store_of parts).max request s (its.served.0, answer)
-                either (inl same) = inl (λ i. (ap (λ (r : State × Answer). r.0) e i, same i))
-                either (inr (none, same)) = inr (none, ap (λ (r : State × Answer). r.0) e ∙ same)
+        served_so = rebuild_served g (store_of parts).max s it.name it.stripe it.server its.served its.allowed outcome (is_answered s at).1 answer answers
 
         kept_by : {X : Type 0} (f : State → X) → f made.0 ≡ f s → f its.served.0 ≡ f s
         kept_by f stays = by its.allowed

@@ -10,9 +10,9 @@ use Rattle.session_rules.specs.declared.answer.Missing.{Missing}
 use Rattle.session_rules.specs.declared.answer.Answer.{Answer}
 use Rattle.snapshot_view.specs.declared.ends.SnapOutcome.{SnapOutcome}
 use Rattle.snapshot_view.specs.declared.ends.SnapOutcome.TheVariants as read
-use Rattle.call_steps.specs.declared.outcome.CallOutcome.{CallOutcome}
-use Rattle.call_steps.specs.declared.outcome.CallOutcome.TheVariants as ended
+use Rattle.call_steps.specs.declared.outcomes.Outcome.{Outcome}
 use Rattle.call_steps.specs.declared.outcomes.Outcome.TheVariants as client
+use Rattle.call_steps.specs.declared.outcomes.RepairOutcome.{RepairOutcome}
 use Rattle.call_steps.specs.declared.outcomes.RepairOutcome.TheVariants as repair
 
 -- the count that a placement tells, and that why a chunk isn't given tells
@@ -32,25 +32,21 @@ missing_in lost = record { server = lost.server; placed = placed_epoch lost.plac
 abbrev pub IsUnavailable : ℕ → List LostChunk → Answer → Type 0
 IsUnavailable stripe missing answer = (answer ≡ Answer.NoMemory) ⊎ (answer ≡ Answer.Unavailable stripe (map missing_in missing))
 
--- to a client's call; the two ends that a rebuild shares are answered alike
-abbrev pub AnswersCall : CallOutcome → Answer → Type 0
-AnswersCall (ended.Client (client.Answered point reply)) answer = answer ≡ Answer.Replied reply
-AnswersCall (ended.Client (client.Served point bytes)) answer = answer ≡ Answer.Replied (reply.Bytes bytes.items)
-AnswersCall (ended.Client (client.Unavailable stripe missing)) answer = IsUnavailable stripe missing.items answer
-AnswersCall (ended.Rebuild (repair.Unavailable stripe missing)) answer = IsUnavailable stripe missing.items answer
-AnswersCall (ended.Client client.NoMemory) answer = answer ≡ Answer.NoMemory
-AnswersCall (ended.Rebuild repair.NoMemory) answer = answer ≡ Answer.NoMemory
+-- to a client's call
+abbrev pub AnswersCall : Outcome → Answer → Type 0
+AnswersCall (client.Answered point reply) answer = answer ≡ Answer.Replied reply
+AnswersCall (client.Served point bytes) answer = answer ≡ Answer.Replied (reply.Bytes bytes.items)
+AnswersCall (client.Unavailable stripe missing) answer = IsUnavailable stripe missing.items answer
+AnswersCall client.NoMemory answer = answer ≡ Answer.NoMemory
 AnswersCall _ answer = ⊥
 
--- to a rebuild, likewise
-abbrev pub AnswersRebuild : CallOutcome → Answer → Type 0
-AnswersRebuild (ended.Rebuild repair.Rebuilt) answer = answer ≡ Answer.Rebuilt
-AnswersRebuild (ended.Rebuild repair.Here) answer = answer ≡ Answer.Here
-AnswersRebuild (ended.Rebuild repair.NoSuch) answer = answer ≡ Answer.Replied reply.NoSuch
-AnswersRebuild (ended.Rebuild (repair.Unavailable stripe missing)) answer = IsUnavailable stripe missing.items answer
-AnswersRebuild (ended.Client (client.Unavailable stripe missing)) answer = IsUnavailable stripe missing.items answer
-AnswersRebuild (ended.Rebuild repair.NoMemory) answer = answer ≡ Answer.NoMemory
-AnswersRebuild (ended.Client client.NoMemory) answer = answer ≡ Answer.NoMemory
+-- to a rebuild
+abbrev pub AnswersRebuild : RepairOutcome → Answer → Type 0
+AnswersRebuild repair.Rebuilt answer = answer ≡ Answer.Rebuilt
+AnswersRebuild repair.Here answer = answer ≡ Answer.Here
+AnswersRebuild repair.NoSuch answer = answer ≡ Answer.Replied reply.NoSuch
+AnswersRebuild (repair.Unavailable stripe missing) answer = IsUnavailable stripe missing.items answer
+AnswersRebuild repair.NoMemory answer = answer ≡ Answer.NoMemory
 AnswersRebuild _ answer = ⊥
 
 -- to a read of a snapshot

@@ -1,6 +1,8 @@
 -- How a call or a rebuild that runs alone ends.
 use Rattle.std.specs.Prelude.{⊤}
 use Rattle.store_core.specs.Act.{Outcome}
+use Rattle.call_steps.specs.declared.outcome.CallOutcome.{CallOutcome}
+use Rattle.call_steps.specs.declared.outcome.CallOutcome.TheVariants as ended
 
 -- a call of the map ends so
 abbrev pub EndsCall : Outcome → Type 0
@@ -18,3 +20,8 @@ EndsRebuild Outcome.NoSuch = ⊤
 EndsRebuild (Outcome.Unavailable stripe missing) = ⊤
 EndsRebuild Outcome.NoMemory = ⊤
 EndsRebuild _ = ⊥
+
+-- a client's call ended
+abbrev pub IsOfClient : CallOutcome → Type 0
+IsOfClient (ended.Client outcome) = ⊤
+IsOfClient (ended.Rebuild outcome) = ⊥

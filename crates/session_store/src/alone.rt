@@ -5,15 +5,17 @@ ghost use Rattle.store_core.specs.Agreement.{ActorToken};
 ghost use Rattle.stripe_stamps.specs.Sealed.{Sealed};
 ghost use Rattle.call_steps.specs.CallOf.{act_of, taken_of};
 ghost use Rattle.call_steps.specs.Steps.{need_of};
-ghost use Rattle.call_machine.specs.Ends.{IfBytesServed};
-ghost use Rattle.call_machine.specs.Kinds.{machine_of, IfReads};
+ghost use Rattle.call_machine.specs.Ends.{IfBytesServed, IsEndOf};
+ghost use Rattle.call_machine.specs.Kinds.{Machine, machine_of, IfReads};
 ghost use Rattle.call_steps.specs.CallOutcomes.{call_outcome_of};
+ghost use Rattle.call_steps.specs.declared.outcome.CallOutcome.TheVariants as ended;
+ghost use Rattle.session_store.specs.Ends.{IsOfClient};
 ghost use Rattle.session_store.specs.Stepping.{GoesOn, HasPlace, IsCoded, MayStep, HasStepped};
 ghost use Rattle.session_store.specs.Running.{MayRun, HasRunTo};
 
 use crate::places::SessionPlaces;
 use call_machine::CallMachine;
-use call_steps::{CallOutcome, Need};
+use call_steps::{CallOutcome, Need, Outcome, RepairOutcome};
 use clay_model::Coder;
 use read_ledger::Takes;
 use std::snapshot::Snapshot;
@@ -79,6 +81,7 @@ pub(crate) fn run_call<'a, R: Threads + Sync, C: Coder>(
     requires { MayRun call places.old }
     ensures ran { HasRunTo call.entry places.old result.0.value places.new }
     ensures seat { ActorToken.Seated result.1 ≡ result.0.value.call.token }
+    ensures kind { IsEndOf (machine_of result.0.value.asked) result.2 }
     ensures outcome { act_of result.0.value.call ≡ CoreAct.Finish (call_outcome_of result.2) }
     ensures served { IfReads (machine_of result.0.value.asked) (IfBytesServed result.2 (λ bytes. bytes.items ≡ result.0.value.owed)) }
     ensures takes { result.3 ≡ taken_of result.0.value.call.takes }
@@ -87,4 +90,26 @@ pub(crate) fn run_call<'a, R: Threads + Sync, C: Coder>(
     let last = Snapshot::of(&call);
     let (seat, outcome, takes) = call.finish();
     (last, seat, outcome, takes)
+}
+
+/// How a client's call ended.
+pub(crate) fn client_outcome(outcome: CallOutcome) -> Outcome
+    requires { IsOfClient outcome }
+    ensures { outcome ≡ ended.Client result }
+{
+    match outcome {
+        CallOutcome::Client(outcome) => outcome,
+        CallOutcome::Rebuild(_) => unreachable!(),
+    }
+}
+
+/// How a rebuild ended.
+pub(crate) fn repair_outcome(outcome: CallOutcome) -> RepairOutcome
+    requires { IsEndOf Machine.Rebuilds outcome }
+    ensures { outcome ≡ ended.Rebuild result }
+{
+    match outcome {
+        CallOutcome::Client(_) => unreachable!(),
+        CallOutcome::Rebuild(outcome) => outcome,
+    }
 }

@@ -1,10 +1,10 @@
 //! A session's answers, from how calls and reads ended.
 ghost use Rattle.std.specs.Prelude.{◌≡◌, map, IfOk};
-ghost use Rattle.call_steps.specs.CallOutcomes.{call_outcome_of};
+ghost use Rattle.call_steps.specs.Outcomes.{outcome_of, repair_outcome_of};
 ghost use Rattle.session_store.specs.Answers.{missing_in, IsUnavailable, AnswersCall, AnswersRebuild, AnswersRead};
 ghost use Rattle.session_store.specs.Ends.{EndsCall, EndsRebuild};
 
-use call_steps::{CallOutcome, Outcome, RepairOutcome};
+use call_steps::{Outcome, RepairOutcome};
 use session_rules::{Answer, Missing};
 use snapshot_view::SnapOutcome;
 use std::alloc::{AllocError, Global};
@@ -51,44 +51,35 @@ fn unavailable(alloc: Global, stripe: u32, lost: &[LostChunk]) -> Answer
 }
 
 /// The answer to a call of the map that ended so.
-pub(crate) fn of_call(alloc: Global, outcome: CallOutcome) -> Answer
-    requires { EndsCall (call_outcome_of outcome) }
+pub(crate) fn of_call(alloc: Global, outcome: Outcome) -> Answer
+    requires { EndsCall (outcome_of outcome) }
     ensures { AnswersCall outcome result }
 {
     match outcome {
-        CallOutcome::Client(Outcome::Answered { reply, .. }) => Answer::Replied(reply),
-        CallOutcome::Client(Outcome::Served { bytes, .. }) => {
-            Answer::Replied(Reply::Bytes(ListOf::from_vec(bytes)))
-        }
-        CallOutcome::Client(Outcome::Unavailable { stripe, missing })
-        | CallOutcome::Rebuild(RepairOutcome::Unavailable { stripe, missing }) => {
-            unavailable(alloc, stripe, &missing)
-        }
-        CallOutcome::Client(Outcome::NoMemory) | CallOutcome::Rebuild(RepairOutcome::NoMemory) => {
-            Answer::NoMemory
-        }
-        // No other call comes between, no server is away, and nothing is given up.
-        CallOutcome::Client(_) | CallOutcome::Rebuild(_) => unreachable!(),
+        Outcome::Answered { reply, .. } => Answer::Replied(reply),
+        Outcome::Served { bytes, .. } => Answer::Replied(Reply::Bytes(ListOf::from_vec(bytes))),
+        Outcome::Unavailable { stripe, missing } => unavailable(alloc, stripe, &missing),
+        Outcome::NoMemory => Answer::NoMemory,
+        // No other call comes between, and nothing is given up.
+        Outcome::Contended { .. } | Outcome::Reaped { .. } => unreachable!(),
     }
 }
 
 /// The answer to a rebuild that ended so.
-pub(crate) fn of_rebuild(alloc: Global, outcome: CallOutcome) -> Answer
-    requires { EndsRebuild (call_outcome_of outcome) }
+pub(crate) fn of_rebuild(alloc: Global, outcome: RepairOutcome) -> Answer
+    requires { EndsRebuild (repair_outcome_of outcome) }
     ensures { AnswersRebuild outcome result }
 {
     match outcome {
-        CallOutcome::Rebuild(RepairOutcome::Rebuilt) => Answer::Rebuilt,
-        CallOutcome::Rebuild(RepairOutcome::Here) => Answer::Here,
-        CallOutcome::Rebuild(RepairOutcome::NoSuch) => Answer::Replied(Reply::NoSuch),
-        CallOutcome::Client(Outcome::Unavailable { stripe, missing })
-        | CallOutcome::Rebuild(RepairOutcome::Unavailable { stripe, missing }) => {
-            unavailable(alloc, stripe, &missing)
-        }
-        CallOutcome::Client(Outcome::NoMemory) | CallOutcome::Rebuild(RepairOutcome::NoMemory) => {
-            Answer::NoMemory
-        }
-        CallOutcome::Client(_) | CallOutcome::Rebuild(_) => unreachable!(),
+        RepairOutcome::Rebuilt => Answer::Rebuilt,
+        RepairOutcome::Here => Answer::Here,
+        RepairOutcome::NoSuch => Answer::Replied(Reply::NoSuch),
+        RepairOutcome::Unavailable { stripe, missing } => unavailable(alloc, stripe, &missing),
+        RepairOutcome::NoMemory => Answer::NoMemory,
+        // No server is away, no call comes between, and nothing is given up.
+        RepairOutcome::Away { .. }
+        | RepairOutcome::Superseded { .. }
+        | RepairOutcome::Reaped { .. } => unreachable!(),
     }
 }
 

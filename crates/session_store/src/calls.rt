@@ -5,7 +5,7 @@ ghost use Rattle.session_rules.specs.declared.request.Request.{Request};
 ghost use Rattle.session_store.specs.Inside.{store_of};
 ghost use Rattle.session_store.specs.Kept.{MayServe, ServesRequest};
 
-use crate::alone::run_call;
+use crate::alone::{client_outcome, run_call};
 use crate::answers::of_call;
 use crate::parts::Parts;
 use crate::seats::{put_seat, take};
@@ -55,5 +55,5 @@ pub(crate) fn serve_call<R: Threads + Sync, C: Coder>(
     put_seat(&mut parts.client, seat);
     sweep_all(&mut parts.places);
     parts.served += 1;
-    of_call(parts.alloc, outcome)
+    of_call(parts.alloc, client_outcome(outcome))
 }

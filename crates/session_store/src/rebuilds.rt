@@ -5,7 +5,7 @@ ghost use Rattle.session_rules.specs.declared.request.Request.{Request};
 ghost use Rattle.session_store.specs.Inside.{store_of};
 ghost use Rattle.session_store.specs.Kept.{MayServe, ServesRequest};
 
-use crate::alone::run_call;
+use crate::alone::{repair_outcome, run_call};
 use crate::answers::of_rebuild;
 use crate::parts::Parts;
 use crate::seats::{put_seat, take};
@@ -34,5 +34,5 @@ pub(crate) fn rebuild<R: Threads + Sync, C: Coder>(
     put_seat(&mut parts.repairer, seat);
     sweep_all(&mut parts.places);
     parts.served += 1;
-    of_rebuild(parts.alloc, outcome)
+    of_rebuild(parts.alloc, repair_outcome(outcome))
 }
