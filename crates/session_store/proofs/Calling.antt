@@ -1,20 +1,17 @@
 -- A call of the map is served.
 use Rattle.std.proofs.Common.{◌≡◌, ◌⊎◌, ℕ, zero, suc, ◌+◌, ◌<◌, ◌≤◌, ◌^◌, false, nat_eq, if◌then◌else◌, List, [], ◌∷◌, length, Option, None, Some, Vec, Contains, refl, sym, ap, subst, ◌∙◌, inl, inr, arith}
 use Rattle.std.specs.Global.{Global}
-use Rattle.std.specs.Prelude.{⊤}
 use Rattle.std.proofs.lemmas.Bool.{ne_eqb}
 use Rattle.std.proofs.lemmas.Option.{same_Some}
 use Rattle.clay_grid.specs.Shape.{Shape, stripe_length}
-use Rattle.clay_grid.specs.Limits.{IsGeometry}
 use Rattle.store_map.specs.PlainMap.{apply}
-use Rattle.store_map.specs.declared.actor.Actor.{Actor}
 use Rattle.store_map.specs.declared.actor.Actor.TheVariants as actor
 use Rattle.store_map.specs.declared.call.Call.{Call}
 use Rattle.store_map.specs.declared.call.Call.TheVariants as call
 use Rattle.store_map.specs.declared.reply.Reply.{Reply}
 use Rattle.store_map.specs.declared.reply.Reply.TheVariants as reply
 use Rattle.store_core.specs.Act.{Act, DirectoryStep}
-use Rattle.store_core.specs.Agreement.{Seat, ActorToken, Agrees, AgreesWithSeat}
+use Rattle.store_core.specs.Agreement.{Seat, ActorToken, AgreesWithSeat}
 use Rattle.store_core.specs.AtDirectory.{at_directory}
 use Rattle.store_core.specs.Calls.{Calls}
 use Rattle.store_core.specs.NextAct.{Job, job_of}
@@ -28,13 +25,12 @@ use Rattle.run_laws.specs.StateActs.{act_of_state}
 use Rattle.version_seal.specs.Entry.{BookOf}
 use Rattle.session_rules.specs.State.{State}
 use Rattle.session_rules.specs.Serve.{serve}
-use Rattle.session_rules.specs.Shortages.{IsServed}
 use Rattle.session_rules.specs.declared.answer.Answer.{Answer}
 use Rattle.session_rules.specs.declared.request.Request.{Request}
 use Rattle.session_rules.specs.Alone.{AtWork}
 use Rattle.session_rules.specs.Outcomes.{outcome_at}
 use Rattle.session_rules.specs.Wants.{wanting_steps}
-use Rattle.session_rules.specs.Between.{seats_after, IsBetween}
+use Rattle.session_rules.specs.Between.{seats_after}
 use Rattle.session_rules.specs.Serving.{AreSweptTo}
 use Rattle.session_rules.specs.Answering.{RunsTo, IsAnswered}
 use Rattle.session_rules.proofs.CallsAnswered.{calls_are_answered}
@@ -62,16 +58,12 @@ use Rattle.call_steps.specs.declared.outcome.CallOutcome.TheVariants as ended
 use Rattle.call_steps.specs.Outcomes.{outcome_of}
 use Rattle.call_steps.specs.declared.outcomes.Outcome.{Outcome}
 use Rattle.call_steps.specs.declared.outcomes.Outcome.TheVariants as client
-use Rattle.store_core.specs.Lookups.{same_actor}
 use Rattle.session_store.specs.Answers.{AnswersCall}
-use Rattle.session_store.specs.Kept.{HasSeat, ServesRequest}
-use Rattle.session_store.specs.Serving.{Serves}
-use Rattle.session_store.specs.Standing.{AreKept}
-use Rattle.session_store.specs.Running.{IsLow}
+use Rattle.session_store.specs.Kept.{ServesRequest}
 use Rattle.session_store.proofs.Numbers.{known_fresh, passed_over}
 use Rattle.session_store.proofs.Outcomes.{ends_as_client, call_served, ends_call}
-use Rattle.session_store.proofs.Seating.{tickets_still}
-use Rattle.session_store.proofs.Standing.{call_epochs, later_epochs}
+use Rattle.session_store.proofs.Leaving.{LeavesPlaces, LeavesState, run_leaves, seat_back, seat_still, request_is_served}
+use Rattle.session_store.proofs.Standing.{call_epochs}
 use Rattle.session_store.specs.declared.parts.Parts.{Parts}
 use Rattle.session_store.specs.declared.places.SessionPlaces.{SessionPlaces}
 use Rattle.session_store.specs.Inside.{store_of}
@@ -245,32 +237,8 @@ module _ (parts : Parts) (is : IsStore (store_of parts)) (written : Call) (seat 
     owed_by told = []
 
     pins_or : (told : Told) → ((point : ℕ) × (length_now : ℕ) × (seen : List Seen) × (told ≡ Told.Pinned point length_now seen)) ⊎ (owed_by told ≡ [])
-    pins_or (Told.Answer point reply) = inr refl
     pins_or (Told.Pinned point length_now seen) = inl (point, length_now, seen, refl)
-    pins_or (Told.Ready base length stripes) = inr refl
-    pins_or Told.NoSuch = inr refl
-    pins_or (Told.PinnedStripe seen) = inr refl
-    pins_or (Told.Versions versions) = inr refl
-    pins_or (Told.Done point) = inr refl
-    pins_or (Told.Changed base newer) = inr refl
-    pins_or Told.Ended = inr refl
-    pins_or Told.Current = inr refl
-    pins_or (Told.Superseded newer) = inr refl
-    pins_or (Told.Reaped point) = inr refl
-    pins_or (Told.Taken version) = inr refl
-    pins_or (Told.GivenUp point) = inr refl
-    pins_or (Told.Prepared placement) = inr refl
-    pins_or Told.Settled = inr refl
-    pins_or Told.Here = inr refl
-    pins_or (Told.Missing found) = inr refl
-    pins_or (Told.Given layers) = inr refl
-    pins_or (Told.Placed epoch) = inr refl
-    pins_or Told.AlreadyThere = inr refl
-    pins_or (Told.Away downs) = inr refl
-    pins_or Told.Made = inr refl
-    pins_or Told.NotMade = inr refl
-    pins_or Told.Short = inr refl
-    pins_or Told.Gathered = inr refl
+    pins_or told = inr refl
 
     abbrev looked : Told
     looked = (at_directory false (actor.Client 0) parts.served (DirectoryStep.Look (note_of written)) parts.places.directory.core).1
@@ -308,26 +276,12 @@ module _ (parts : Parts) (is : IsStore (store_of parts)) (written : Call) (seat 
 
     -- ---- what it leaves
     module _ (seat_now : Seat) (seat_after : ActorToken.Seated seat_now ≡ c.call.token) (served : IfReads (machine_of c.asked) (IfBytesServed ended_as (λ bytes. bytes.items ≡ c.owed))) (answer : Answer) (answers : AnswersCall outcome answer) where
-      abbrev parts_after : Parts
-      parts_after = record parts { places = now; served = parts.served + 1; client = Some seat_now }
-
-      book_same : now.book ≡ parts.places.book
-      book_same = swept.keeps.same.book ∙ ran.same.book
-
-      most_same : now.directory.core.max ≡ parts.places.directory.core.max
-      most_same = (is_answered is.state is.stands).0.between.seen.most
-
-      -- tickets of others agree still
-      others_still : (token : ActorToken) → same_actor (actor.Client 0) (actor_of token) ≡ false → same_actor actor.Sweeper (actor_of token) ≡ false → Agrees parts.places.directory.core token → Agrees now.directory.core token
-      others_still token apart unswept agrees = swept.keeps.agrees token unswept (ran.others token (ap (λ a. same_actor a (actor_of token)) who_is ∙ apart) agrees)
+      places_left : LeavesPlaces parts (actor.Client 0) now
+      places_left = run_leaves parts (actor.Client 0) first c left now ran swept who_is (is_answered is.state is.stands).0.between.seen.most
 
       module _ (s : State) (at : StandsAt (store_of parts) s) where
         abbrev its : IsAnswered (calls s at) g (store_of parts).max (seats_at parts.served) s (Request.OfMap written) (seen_in now)
         its = (is_answered s at).0
-
-        -- the answer is the session's
-        served_so : IsServed g (store_of parts).max (Request.OfMap written) s (its.served.0, answer)
-        served_so = call_served g (store_of parts).max s written its.served its.allowed outcome (length parts.places.directory.core.points) (is_answered s at).1 answer answers (served_bytes s at served)
 
         -- what requests of other kinds see stays
         kept_by : {X : Type 0} (f : State → X) → f (serve g (store_of parts).max (Request.OfMap written) s).0 ≡ f s → f its.served.0 ≡ f s
@@ -337,66 +291,25 @@ module _ (parts : Parts) (is : IsStore (store_of parts)) (written : Call) (seat 
             by (inl e) = ap (λ (r : State × Answer). f r.0) e ∙ stays
             by (inr (none, same)) = ap f same
 
-        between_after : IsBetween (calls s at) g (store_of parts).max (seats_at (parts.served + 1)) its.stands (seen_in now) its.served.0
-        between_after =
-            passed_over (calls s at) g (store_of parts).max (seats_after (Request.OfMap written) (seats_at parts.served)) (parts.served + 1) (parts.served + 1) (parts.served + 1) its.stands (seen_in now) its.served.0 (omega arith) (omega arith) (omega arith)
-            its.between
-
-        pub stands_after : StandsAt (store_of parts_after) its.served.0
-        stands_after = record {
+        state_left : LeavesState parts is (actor.Client 0) now places_left (Request.OfMap written) answer (Some seat_now) parts.repairer parts.healer parts.next s
+        state_left = record {
+          after = its.served.0;
+          served = call_served g (store_of parts).max s written its.served its.allowed outcome (length parts.places.directory.core.points) (is_answered s at).1 answer answers (served_bytes s at served);
           calls = calls s at;
           stands = its.stands;
           between =
-              subst (λ (b : BookOf). IsBetween (calls s at) b.geometry now.directory.core.max (seats_at (parts.served + 1)) its.stands (seen_in now) its.served.0) (sym book_same)
-              (subst (λ m. IsBetween (calls s at) g m (seats_at (parts.served + 1)) its.stands (seen_in now) its.served.0) (sym most_same) between_after);
+              passed_over (calls s at) g (store_of parts).max (seats_after (Request.OfMap written) (seats_at parts.served)) (parts.served + 1) (parts.served + 1) (parts.served + 1) its.stands (seen_in now) its.served.0 (omega arith) (omega arith) (omega arith)
+              its.between;
           contents = swept.keeps.contents (calls s at) (ran.bytes (calls s at) (known_bytes s at)).contents;
           fresh = known_fresh at.calls parts.served (asked_of written) at.fresh;
-          next = kept_by (λ x. x.next) (call_next g (store_of parts).max s written) ∙ at.next;
-          epochs = later_epochs s.epochs its.served.0.epochs parts.served (kept_by (λ x. x.epochs) (call_epochs g (store_of parts).max s written)) at.epochs;
-          snapshot = subst (λ x. AreKept x parts.snapshot) (sym (kept_by (λ x. x.snapshot) (call_snapshot g (store_of parts).max s written))) at.snapshot;
+          next_is = kept_by (λ x. x.next) (call_next g (store_of parts).max s written) ∙ at.next;
+          epochs = kept_by (λ x. x.epochs) (call_epochs g (store_of parts).max s written);
+          snapshot = kept_by (λ x. x.snapshot) (call_snapshot g (store_of parts).max s written);
         }
 
-        pub serves_call : Serves (Request.OfMap written) s answer (store_of parts_after)
-        serves_call = record {
-          after = its.served.0;
-          served =
-              subst (λ (b : BookOf). IsServed b.geometry now.directory.core.max (Request.OfMap written) s (its.served.0, answer)) (sym book_same)
-              (subst (λ m. IsServed g m (Request.OfMap written) s (its.served.0, answer)) (sym most_same) served_so);
-          stands = stands_after;
-        }
-
-      pub call_is_served : ServesRequest (Request.OfMap written) (store_of parts) answer (store_of parts_after)
-      call_is_served = record {
-        serves = serves_call;
-        same = λ i. record { geometry = ap (λ (b : BookOf). b.geometry) book_same i; max = most_same i; served = parts.served + 1; kept = (store_of parts_after).kept };
-        kept = record {
-          code = subst (λ (b : BookOf). IsGeometry b.geometry) (sym book_same) is.code;
-          wide = subst (λ (b : BookOf). 0 < stripe_length b.geometry) (sym book_same) is.wide;
-          free = (refl, swept.keeps.same.places.free);
-          book = swept.keeps.same.places.book;
-          most = refl;
-          small = subst (λ m. m < 2 ^ 32) (sym most_same) is.small;
-          servers = swept.keeps.same.places.servers;
-          client = record {
-            seat = seat_now;
-            there = refl;
-            actor = ap actor_of seat_after ∙ ran.run.its.its_actor ∙ who_is;
-            unused = subst (λ n. seat_now.unused ≤ n + 1) number_is (subst (IsLow first.call.number) (sym seat_after) ran.low);
-            agrees = swept.keeps.agrees (ActorToken.Seated seat_now) (ap (same_actor actor.Sweeper) (ap actor_of seat_after ∙ ran.run.its.its_actor ∙ who_is)) (subst (Agrees left.directory.core) (sym seat_after) ran.agrees);
-          };
-          repairer = seat_still (actor.Repairer 0) parts.served (parts.served + 1) parts.repairer (omega arith) refl refl is.repairer;
-          healer = seat_still (actor.Repairer 1) parts.next parts.next parts.healer (omega arith) refl refl is.healer;
-          tickets = tickets_still parts.places.directory.core now.directory.core (actor.Client 0) (λ n some. ne_eqb 0 n (λ e. omega (arith, some, e))) others_still parts.served (parts.served + 1) parts.places.book now.book book_same (omega arith) parts.snapshot (store_of parts).kept.tickets is.tickets;
-          state = (is_answered is.state is.stands).0.served.0;
-          stands = stands_after is.state is.stands;
-        };
-      }
-        where
-          seat_still : (who : Actor) (n m : ℕ) (place : Option Seat) → n ≤ m → same_actor (actor.Client 0) who ≡ false → same_actor actor.Sweeper who ≡ false → HasSeat parts.places.directory.core who n place → HasSeat now.directory.core who m place
-          seat_still who n m place less apart unswept has = record {
-            seat = has.seat;
-            there = has.there;
-            actor = has.actor;
-            unused = (let low = has.unused in omega (arith, less, low));
-            agrees = others_still (ActorToken.Seated has.seat) (ap (same_actor (actor.Client 0)) has.actor ∙ apart) (ap (same_actor actor.Sweeper) has.actor ∙ unswept) has.agrees;
-          }
+      pub call_is_served : ServesRequest (Request.OfMap written) (store_of parts) answer (store_of (record parts { places = now; served = parts.served + 1; client = Some seat_now }))
+      call_is_served =
+          request_is_served parts is (actor.Client 0) now places_left (Request.OfMap written) answer (Some seat_now) parts.repairer parts.healer parts.next state_left (λ n some. ne_eqb 0 n (λ e. omega (arith, some, e)))
+          (seat_back parts (actor.Client 0) first c left now ran swept who_is parts.served number_is refl seat_now seat_after)
+          (seat_still parts is (actor.Client 0) now places_left (actor.Repairer 0) parts.served (parts.served + 1) parts.repairer (omega arith) refl refl is.repairer)
+          (seat_still parts is (actor.Client 0) now places_left (actor.Repairer 1) parts.next parts.next parts.healer (omega arith) refl refl is.healer)

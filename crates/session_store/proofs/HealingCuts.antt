@@ -36,7 +36,7 @@ use Rattle.session_rules.proofs.Repairs.{has_parity, healed}
 use Rattle.call_steps.specs.CallOf.{tries_by}
 use Rattle.session_store.specs.declared.parts.Parts.{Parts}
 use Rattle.session_store.specs.Inside.{store_of}
-use Rattle.session_store.specs.Kept.{IsStore, ServesRequest}
+use Rattle.session_store.specs.Kept.{HasSeat, IsStore, ServesRequest}
 use Rattle.session_store.specs.Places.{seen_in}
 use Rattle.session_store.specs.Standing.{StandsAt, seats_at}
 use Rattle.session_store.specs.Stored.{places_in}
@@ -46,7 +46,8 @@ use Rattle.session_store.proofs.Standing.{healed_epochs}
 use Rattle.session_store.proofs.HealingAll.{take_next}
 use Rattle.session_store.proofs.HealingTakes.{made_anew}
 use Rattle.session_store.proofs.HealingAnswered.{chunks_are, numbers_last_so}
-use Rattle.session_store.proofs.HealingEnds.{after_heal, LeavesState, LeavesPlaces, heal_is_served, heal_made}
+use Rattle.session_store.proofs.HealingEnds.{after_heal, HealLeaves, heal_is_served, heal_made}
+use Rattle.session_store.proofs.Leaving.{LeavesPlaces}
 
 -- ---- lists by their places
 take_map : {X Y : Type 0} (f : X → Y) (n : ℕ) (xs : List X) → take n (map f xs) ≡ map f (take n xs)
@@ -218,7 +219,7 @@ module _ (parts : Parts) (is : IsStore (store_of parts)) (lost : List LostChunk)
     answered : (answered : IsAnswered at.calls g max (seats_at parts.served) s Request.Heal (seen_in now.places)) × (answered.served ≡ (after, Answer.NoMemory))
     answered = heals_are_answered at.calls g max tries (seats_at parts.served) at.stands before (seen_in now.places) s after is.wide (has_parity g is.code) at.between cut_off
 
-    state_left : LeavesState parts is answer now.places has.left.healer has.left.next s at
+    state_left : HealLeaves parts is answer now.places has.left.healer has.left.next s at
     state_left = record {
       after = after;
       served =
@@ -231,27 +232,28 @@ module _ (parts : Parts) (is : IsStore (store_of parts)) (lost : List LostChunk)
       snapshot = healed_snapshot g made s;
     }
 
-  places_left : LeavesPlaces parts is answer now.places has.left.healer has.left.next
+  places_left : LeavesPlaces parts who now.places
   places_left = record {
     are = has.swept.keeps.same.places;
     book = has.swept.keeps.same.book ∙ has.cut.keeps.same.book;
     most = (answered is.state is.stands).0.between.seen.most;
-    seat = record {
-      seat = has.cut.keeps.may.healer.seat;
-      there = has.cut.keeps.may.healer.there;
-      actor = has.cut.keeps.may.healer.actor;
-      unused = has.cut.keeps.may.healer.unused;
-      agrees = has.swept.keeps.agrees (ActorToken.Seated has.cut.keeps.may.healer.seat) (ap (same_actor actor.Sweeper) has.cut.keeps.may.healer.actor) has.cut.keeps.may.healer.agrees;
-    };
     others = λ token apart unswept agrees. has.swept.keeps.agrees token unswept (has.cut.keeps.others token apart agrees);
-    contents = λ calls holds. has.swept.keeps.contents calls (has.cut.keeps.holds calls holds).contents;
+  }
+
+  seat_left : HasSeat now.places.directory.core who has.left.next has.left.healer
+  seat_left = record {
+    seat = has.cut.keeps.may.healer.seat;
+    there = has.cut.keeps.may.healer.there;
+    actor = has.cut.keeps.may.healer.actor;
+    unused = has.cut.keeps.may.healer.unused;
+    agrees = has.swept.keeps.agrees (ActorToken.Seated has.cut.keeps.may.healer.seat) (ap (same_actor actor.Sweeper) has.cut.keeps.may.healer.actor) has.cut.keeps.may.healer.agrees;
   }
 
   rest_is : now ≡ after_heal parts is answer now.places has.left.healer has.left.next
   rest_is = has.rest ∙ ap (λ (p : Parts). let q : Parts = record p { places = now.places } in q) has.cut.keeps.rest
 
   pub heal_cut : ServesRequest Request.Heal (store_of parts) answer (store_of now)
-  heal_cut = subst (λ (p : Parts). ServesRequest Request.Heal (store_of parts) answer (store_of p)) (sym rest_is) (heal_is_served parts is answer now.places has.left.healer has.left.next places_left state_left)
+  heal_cut = subst (λ (p : Parts). ServesRequest Request.Heal (store_of parts) answer (store_of p)) (sym rest_is) (heal_is_served parts is answer now.places has.left.healer has.left.next places_left seat_left (λ calls holds. has.swept.keeps.contents calls (has.cut.keeps.holds calls holds).contents) state_left)
 
 -- ---- the heal's end
 module _ (parts : Parts) (is : IsStore (store_of parts)) (lost : List LostChunk) (are : lost ≡ lost_at (places_in (store_of parts))) (few : parts.next + length lost ≤ 2 ^ 32 - 1) (answer : Answer) (now : Parts) where

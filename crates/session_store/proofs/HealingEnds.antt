@@ -1,16 +1,12 @@
 -- A heal that has ended is served, as the session answers where each chunk was made anew.
-use Rattle.std.proofs.Common.{◌≡◌, ℕ, zero, suc, ◌+◌, ◌-◌, ◌*◌, ◌<◌, ◌≤◌, ◌^◌, Bool, true, false, if◌then◌else◌, List, [], length, map, replicate, Option, refl, sym, ap, subst, ◌∙◌, inl, arith}
+use Rattle.std.proofs.Common.{◌≡◌, ℕ, zero, suc, ◌+◌, ◌-◌, ◌*◌, ◌<◌, ◌≤◌, ◌^◌, Bool, true, if◌then◌else◌, List, [], length, map, replicate, Option, refl, sym, ap, subst, ◌∙◌, inl, arith}
 use Rattle.std.proofs.Math.Nat.{pow-le-pow_right}
 use Rattle.std.proofs.lemmas.List.{length-map, take_all}
-use Rattle.clay_grid.specs.Shape.{Shape, chunk_count, stripe_length, row_count, column_count, layer_count}
+use Rattle.clay_grid.specs.Shape.{Shape, chunk_count, row_count, column_count, layer_count}
 use Rattle.clay_grid.specs.Limits.{IsGeometry}
-use Rattle.store_map.specs.declared.actor.Actor.{Actor}
 use Rattle.store_map.specs.declared.actor.Actor.TheVariants as actor
-use Rattle.store_core.specs.Agreement.{Seat, ActorToken, Agrees}
+use Rattle.store_core.specs.Agreement.{Seat}
 use Rattle.store_core.specs.Calls.{Calls}
-use Rattle.store_core.specs.Lookups.{same_actor}
-use Rattle.store_core.specs.Tokens.{actor_of}
-use Rattle.version_seal.specs.Entry.{BookOf}
 use Rattle.stripe_stamps.specs.Stamped.{HaveContents}
 use Rattle.session_rules.specs.State.{State}
 use Rattle.session_rules.specs.Heals.{to_heal, heal_all, numbers_last}
@@ -31,15 +27,14 @@ use Rattle.session_store.specs.declared.parts.Parts.{Parts}
 use Rattle.session_store.specs.declared.places.SessionPlaces.{SessionPlaces}
 use Rattle.session_store.specs.Inside.{store_of}
 use Rattle.session_store.specs.Kept.{HasSeat, IsStore, ServesRequest}
-use Rattle.session_store.specs.Places.{ArePlaces, seen_in}
-use Rattle.session_store.specs.Serving.{Serves}
-use Rattle.session_store.specs.Standing.{StandsAt, AreKept, seats_at}
+use Rattle.session_store.specs.Places.{seen_in}
+use Rattle.session_store.specs.Standing.{StandsAt, seats_at}
 use Rattle.session_store.specs.Stored.{places_in}
 use Rattle.session_store.specs.LostStripes.{healable}
 use Rattle.session_store.specs.Healing.{low, HoldsBytes, HasAnswered}
 use Rattle.session_store.proofs.Numbers.{fresh_later, passed_over}
-use Rattle.session_store.proofs.Seating.{tickets_still}
-use Rattle.session_store.proofs.Standing.{healed_epochs, later_epochs}
+use Rattle.session_store.proofs.Leaving.{LeavesPlaces, LeavesState, seat_still, request_is_served}
+use Rattle.session_store.proofs.Standing.{healed_epochs}
 use Rattle.session_store.proofs.Healing.{few_healable}
 use Rattle.session_store.proofs.HealingBounds.{AreFew, low_same, few_healed}
 use Rattle.session_store.proofs.HealingAnswered.{chunks_are, numbers_last_so, all_made, all_taken}
@@ -51,7 +46,7 @@ module _ (parts : Parts) (is : IsStore (store_of parts)) (answer : Answer) (plac
   after_heal = record parts { places = places; healer = healer; next = next; served = parts.served + 1 }
 
   -- of a state at which the store stood
-  pub record LeavesState (s : State) (at : StandsAt (store_of parts) s) : Type 0 where
+  pub record HealLeaves (s : State) (at : StandsAt (store_of parts) s) : Type 0 where
     pub after : State
     pub served : IsServed parts.places.book.geometry parts.places.directory.core.max Request.Heal s (after, answer)
     pub stands : List ℕ
@@ -60,72 +55,26 @@ module _ (parts : Parts) (is : IsStore (store_of parts)) (answer : Answer) (plac
     pub epochs : after.epochs ≡ s.epochs
     pub snapshot : after.snapshot ≡ s.snapshot
 
-  -- of the places
-  pub record LeavesPlaces : Type 0 where
-    pub are : ArePlaces places
-    pub book : places.book ≡ parts.places.book
-    pub most : places.directory.core.max ≡ parts.places.directory.core.max
-    pub seat : HasSeat places.directory.core (actor.Repairer 1) next healer
-    pub others :
-        (token : ActorToken) → same_actor (actor.Repairer 1) (actor_of token) ≡ false → same_actor actor.Sweeper (actor_of token) ≡ false →
-        Agrees parts.places.directory.core token → Agrees places.directory.core token
-    pub contents : (calls : Calls) → HoldsBytes calls parts.places.directory → HaveContents calls places.directory
-
-  module _ (left : LeavesPlaces) (ends : (s : State) (at : StandsAt (store_of parts) s) → LeavesState s at) where
-    stands_after : (s : State) (at : StandsAt (store_of parts) s) → StandsAt (store_of after_heal) (ends s at).after
-    stands_after s at = record {
-      calls = at.calls;
-      stands = (ends s at).stands;
-      between =
-          subst (λ (b : BookOf). IsBetween at.calls b.geometry places.directory.core.max (seats_at (parts.served + 1)) (ends s at).stands (seen_in places) (ends s at).after) (sym left.book)
-          (subst (λ m. IsBetween at.calls parts.places.book.geometry m (seats_at (parts.served + 1)) (ends s at).stands (seen_in places) (ends s at).after) (sym left.most)
-          (passed_over at.calls parts.places.book.geometry parts.places.directory.core.max (seats_at parts.served) (parts.served + 1) (parts.served + 1) (parts.served + 1) (ends s at).stands (seen_in places) (ends s at).after (omega arith) (omega arith) (omega arith) (ends s at).between));
-      contents = left.contents at.calls (record { bytes = at.between.its_map.bytes; drawn = at.between.its_map.drawn; contents = at.contents });
-      fresh = fresh_later at.calls parts.served at.fresh;
-      next = (ends s at).next_is;
-      epochs = later_epochs s.epochs (ends s at).after.epochs parts.served (ends s at).epochs at.epochs;
-      snapshot = subst (λ x. AreKept x parts.snapshot) (sym (ends s at).snapshot) at.snapshot;
-    }
-
-    serves_heal : (s : State) (at : StandsAt (store_of parts) s) → Serves Request.Heal s answer (store_of after_heal)
-    serves_heal s at = record {
-      after = (ends s at).after;
-      served =
-          subst (λ (b : BookOf). IsServed b.geometry places.directory.core.max Request.Heal s ((ends s at).after, answer)) (sym left.book)
-          (subst (λ m. IsServed parts.places.book.geometry m Request.Heal s ((ends s at).after, answer)) (sym left.most) (ends s at).served);
-      stands = stands_after s at;
-    }
-
-    pub heal_is_served : ServesRequest Request.Heal (store_of parts) answer (store_of after_heal)
-    heal_is_served = record {
-      serves = serves_heal;
-      same = λ i. record { geometry = ap (λ (b : BookOf). b.geometry) left.book i; max = left.most i; served = parts.served + 1; kept = (store_of after_heal).kept };
-      kept = record {
-        code = subst (λ (b : BookOf). IsGeometry b.geometry) (sym left.book) is.code;
-        wide = subst (λ (b : BookOf). 0 < stripe_length b.geometry) (sym left.book) is.wide;
-        free = (refl, left.are.free);
-        book = left.are.book;
-        most = refl;
-        small = subst (λ m. m < 2 ^ 32) (sym left.most) is.small;
-        servers = left.are.servers;
-        client = seat_still (actor.Client 0) parts.client refl refl is.client;
-        repairer = seat_still (actor.Repairer 0) parts.repairer refl refl is.repairer;
-        healer = left.seat;
-        tickets = tickets_still parts.places.directory.core places.directory.core (actor.Repairer 1) (λ n some. refl) left.others parts.served (parts.served + 1) parts.places.book places.book left.book (omega arith) parts.snapshot (store_of parts).kept.tickets is.tickets;
-        state = (ends is.state is.stands).after;
-        stands = stands_after is.state is.stands;
-      };
-    }
-      where
-        seat_still : (who : Actor) (place : Option Seat) → same_actor (actor.Repairer 1) who ≡ false → same_actor actor.Sweeper who ≡ false → HasSeat parts.places.directory.core who parts.served place →
-            HasSeat places.directory.core who (parts.served + 1) place
-        seat_still who place apart unswept has = record {
-          seat = has.seat;
-          there = has.there;
-          actor = has.actor;
-          unused = (let low = has.unused in omega (arith, low));
-          agrees = left.others (ActorToken.Seated has.seat) (ap (same_actor (actor.Repairer 1)) has.actor ∙ apart) (ap (same_actor actor.Sweeper) has.actor ∙ unswept) has.agrees;
-        }
+  pub heal_is_served : (left : LeavesPlaces parts (actor.Repairer 1) places) → HasSeat places.directory.core (actor.Repairer 1) next healer → ((calls : Calls) → HoldsBytes calls parts.places.directory → HaveContents calls places.directory) →
+      ((s : State) (at : StandsAt (store_of parts) s) → HealLeaves s at) → ServesRequest Request.Heal (store_of parts) answer (store_of after_heal)
+  heal_is_served left seat contents ends =
+      request_is_served parts is (actor.Repairer 1) places left Request.Heal answer parts.client parts.repairer healer next leaves (λ n some. refl)
+      (seat_still parts is (actor.Repairer 1) places left (actor.Client 0) parts.served (parts.served + 1) parts.client (omega arith) refl refl is.client)
+      (seat_still parts is (actor.Repairer 1) places left (actor.Repairer 0) parts.served (parts.served + 1) parts.repairer (omega arith) refl refl is.repairer) seat
+    where
+      leaves : (s : State) (at : StandsAt (store_of parts) s) → LeavesState parts is (actor.Repairer 1) places left Request.Heal answer parts.client parts.repairer healer next s
+      leaves s at = record {
+        after = (ends s at).after;
+        served = (ends s at).served;
+        calls = at.calls;
+        stands = (ends s at).stands;
+        between = passed_over at.calls parts.places.book.geometry parts.places.directory.core.max (seats_at parts.served) (parts.served + 1) (parts.served + 1) (parts.served + 1) (ends s at).stands (seen_in places) (ends s at).after (omega arith) (omega arith) (omega arith) (ends s at).between;
+        contents = contents at.calls (record { bytes = at.between.its_map.bytes; drawn = at.between.its_map.drawn; contents = at.contents });
+        fresh = fresh_later at.calls parts.served at.fresh;
+        next_is = (ends s at).next_is;
+        epochs = (ends s at).epochs;
+        snapshot = (ends s at).snapshot;
+      }
 
 -- ---- each chunk was made anew
 few_zeros : (n : ℕ) → AreFew 0 (replicate n 0)
@@ -161,14 +110,12 @@ module _ (parts : Parts) (is : IsStore (store_of parts)) (lost : List LostChunk)
   abbrev max : ℕ
   max = parts.places.directory.core.max
 
-  places_left : LeavesPlaces parts is answer now.places now.healer now.next
+  places_left : LeavesPlaces parts (actor.Repairer 1) now.places
   places_left = record {
     are = has.made.keeps.may.places;
     book = has.made.keeps.same.book;
     most = has.made.keeps.most;
-    seat = has.made.keeps.may.healer;
     others = λ token apart unswept agrees. has.made.keeps.others token apart agrees;
-    contents = λ calls holds. (has.made.keeps.holds calls holds).contents;
   }
 
   module _ (s : State) (at : StandsAt (store_of parts) s) where
@@ -207,7 +154,7 @@ module _ (parts : Parts) (is : IsStore (store_of parts)) (lost : List LostChunk)
     answer_is : answer ≡ (serve g max Request.Heal s).1
     answer_is = has.answers ∙ (λ i. Answer.Healed (count_is i) (total_is i)) ∙ sym (ap (λ (r : State × Answer). r.1) is_made)
 
-    state_left : LeavesState parts is answer now.places now.healer now.next s at
+    state_left : HealLeaves parts is answer now.places now.healer now.next s at
     state_left = record {
       after = (serve g max Request.Heal s).0;
       served = inl (λ i. ((serve g max Request.Heal s).0, answer_is i));
@@ -225,4 +172,4 @@ module _ (parts : Parts) (is : IsStore (store_of parts)) (lost : List LostChunk)
     }
 
   pub heal_made : ServesRequest Request.Heal (store_of parts) answer (store_of now)
-  heal_made = subst (λ (p : Parts). ServesRequest Request.Heal (store_of parts) answer (store_of p)) (sym has.made.keeps.rest) (heal_is_served parts is answer now.places now.healer now.next places_left state_left)
+  heal_made = subst (λ (p : Parts). ServesRequest Request.Heal (store_of parts) answer (store_of p)) (sym has.made.keeps.rest) (heal_is_served parts is answer now.places now.healer now.next places_left has.made.keeps.may.healer (λ calls holds. (has.made.keeps.holds calls holds).contents) state_left)

@@ -2,6 +2,7 @@ mod Lists
 mod Numbers
 mod Seating
 mod Standing
+mod Leaving
 mod Losing
 mod SweepSteps
 mod Later

@@ -1,15 +1,11 @@
 -- A rebuild is served.
-use Rattle.std.proofs.Common.{◌≡◌, ◌⊎◌, ℕ, ◌+◌, ◌<◌, ◌≤◌, ◌^◌, false, if◌then◌else◌, [], ◌∷◌, Option, Some, refl, sym, ap, subst, ◌∙◌, inl, inr, arith}
-use Rattle.std.specs.Prelude.{⊤}
+use Rattle.std.proofs.Common.{◌≡◌, ◌⊎◌, ℕ, ◌+◌, ◌<◌, ◌≤◌, ◌^◌, [], Some, refl, sym, ap, subst, ◌∙◌, inl, inr, arith}
 use Rattle.std.proofs.lemmas.Option.{same_Some}
-use Rattle.clay_grid.specs.Shape.{Shape, chunk_count, stripe_length}
-use Rattle.clay_grid.specs.Limits.{IsGeometry}
-use Rattle.store_map.specs.declared.actor.Actor.{Actor}
+use Rattle.clay_grid.specs.Shape.{Shape, chunk_count}
 use Rattle.store_map.specs.declared.actor.Actor.TheVariants as actor
 use Rattle.store_map.specs.declared.call.Call.TheVariants as call
-use Rattle.store_map.specs.declared.reply.Reply.TheVariants as reply
 use Rattle.store_core.specs.Act.{Act}
-use Rattle.store_core.specs.Agreement.{Seat, ActorToken, Agrees, AgreesWithSeat}
+use Rattle.store_core.specs.Agreement.{Seat, ActorToken, AgreesWithSeat}
 use Rattle.store_core.specs.NextAct.{rebuild_job}
 use Rattle.store_map.specs.declared.call.Rebuild.{Rebuild as RebuildCall}
 use Rattle.store_core.specs.Step.{Places as CorePlaces}
@@ -18,13 +14,12 @@ use Rattle.run_laws.specs.State.{first_state}
 use Rattle.run_laws.specs.StateActs.{act_of_state}
 use Rattle.version_seal.specs.Entry.{BookOf}
 use Rattle.session_rules.specs.State.{State, numbers_of}
-use Rattle.session_rules.specs.Shortages.{IsServed}
 use Rattle.session_rules.specs.declared.answer.Answer.{Answer}
 use Rattle.session_rules.specs.declared.request.Request.{Request}
 use Rattle.session_rules.specs.Alone.{AtWork}
 use Rattle.session_rules.specs.AloneRebuilds.{rebuilt_as}
 use Rattle.session_rules.specs.Wants.{wanting_steps}
-use Rattle.session_rules.specs.Between.{seats_after, IsBetween}
+use Rattle.session_rules.specs.Between.{seats_after}
 use Rattle.session_rules.specs.Serving.{AreSweptTo}
 use Rattle.session_rules.specs.Answering.{RunsTo, IsAnswered}
 use Rattle.session_rules.proofs.RebuildsAnswered.{rebuilds_are_answered}
@@ -41,18 +36,14 @@ use Rattle.call_steps.specs.Outcomes.{repair_outcome_of}
 use Rattle.call_steps.specs.declared.outcome.CallOutcome.{CallOutcome}
 use Rattle.call_steps.specs.declared.outcome.CallOutcome.TheVariants as ended
 use Rattle.call_steps.specs.declared.outcomes.RepairOutcome.{RepairOutcome}
-use Rattle.store_core.specs.Lookups.{same_actor}
 use Rattle.session_rules.specs.Rebuilds.{rebuild}
 use Rattle.session_store.specs.Answers.{AnswersRebuild}
 use Rattle.session_store.specs.Ends.{EndsRebuild}
-use Rattle.session_store.specs.Kept.{HasSeat, ServesRequest}
-use Rattle.session_store.specs.Serving.{Serves}
-use Rattle.session_store.specs.Standing.{AreKept}
-use Rattle.session_store.specs.Running.{IsLow}
+use Rattle.session_store.specs.Kept.{ServesRequest}
 use Rattle.session_store.proofs.Numbers.{fresh_later, passed_over}
 use Rattle.session_store.proofs.RebuildOutcomes.{rebuild_served, ends_rebuild}
-use Rattle.session_store.proofs.Seating.{tickets_still}
-use Rattle.session_store.proofs.Standing.{rebuild_epochs, later_epochs}
+use Rattle.session_store.proofs.Leaving.{LeavesPlaces, LeavesState, run_leaves, seat_back, seat_still, request_is_served}
+use Rattle.session_store.proofs.Standing.{rebuild_epochs}
 use Rattle.session_store.specs.declared.parts.Parts.{Parts}
 use Rattle.session_store.specs.declared.places.SessionPlaces.{SessionPlaces}
 use Rattle.session_store.specs.Inside.{store_of}
@@ -150,17 +141,8 @@ module _ (parts : Parts) (is : IsStore (store_of parts)) (it : RebuildCall) (bel
 
     -- ---- what it leaves
     module _ (seat_now : Seat) (seat_after : ActorToken.Seated seat_now ≡ c.call.token) (answer : Answer) (answers : AnswersRebuild outcome answer) where
-      abbrev parts_after : Parts
-      parts_after = record parts { places = now; served = parts.served + 1; repairer = Some seat_now }
-
-      book_same : now.book ≡ parts.places.book
-      book_same = swept.keeps.same.book ∙ ran.same.book
-
-      most_same : now.directory.core.max ≡ parts.places.directory.core.max
-      most_same = (is_answered is.state is.stands).0.between.seen.most
-
-      others_still : (token : ActorToken) → same_actor (actor.Repairer 0) (actor_of token) ≡ false → same_actor actor.Sweeper (actor_of token) ≡ false → Agrees parts.places.directory.core token → Agrees now.directory.core token
-      others_still token apart unswept agrees = swept.keeps.agrees token unswept (ran.others token (ap (λ a. same_actor a (actor_of token)) who_is ∙ apart) agrees)
+      places_left : LeavesPlaces parts (actor.Repairer 0) now
+      places_left = run_leaves parts (actor.Repairer 0) first c left now ran swept who_is (is_answered is.state is.stands).0.between.seen.most
 
       module _ (s : State) (at : StandsAt (store_of parts) s) where
         abbrev its : IsAnswered at.calls g (store_of parts).max (seats_at parts.served) s request (seen_in now)
@@ -169,9 +151,6 @@ module _ (parts : Parts) (is : IsStore (store_of parts)) (it : RebuildCall) (bel
         abbrev made : State × Answer
         made = rebuild g it.stripe it.server s (numbers_of it.name s.numbers)
 
-        served_so : IsServed g (store_of parts).max request s (its.served.0, answer)
-        served_so = rebuild_served g (store_of parts).max s it.name it.stripe it.server its.served its.allowed outcome (is_answered s at).1 answer answers
-
         kept_by : {X : Type 0} (f : State → X) → f made.0 ≡ f s → f its.served.0 ≡ f s
         kept_by f stays = by its.allowed
           where
@@ -179,65 +158,23 @@ module _ (parts : Parts) (is : IsStore (store_of parts)) (it : RebuildCall) (bel
             by (inl e) = ap (λ (r : State × Answer). f r.0) e ∙ stays
             by (inr (none, same)) = ap f same
 
-        between_after : IsBetween at.calls g (store_of parts).max (seats_at (parts.served + 1)) its.stands (seen_in now) its.served.0
-        between_after =
-            passed_over at.calls g (store_of parts).max (seats_after request (seats_at parts.served)) (parts.served + 1) (parts.served + 1) (parts.served + 1) its.stands (seen_in now) its.served.0 (omega arith) (omega arith) (omega arith) its.between
-
-        stands_after : StandsAt (store_of parts_after) its.served.0
-        stands_after = record {
+        state_left : LeavesState parts is (actor.Repairer 0) now places_left request answer parts.client (Some seat_now) parts.healer parts.next s
+        state_left = record {
+          after = its.served.0;
+          served = rebuild_served g (store_of parts).max s it.name it.stripe it.server its.served its.allowed outcome (is_answered s at).1 answer answers;
           calls = at.calls;
           stands = its.stands;
-          between =
-              subst (λ (b : BookOf). IsBetween at.calls b.geometry now.directory.core.max (seats_at (parts.served + 1)) its.stands (seen_in now) its.served.0) (sym book_same)
-              (subst (λ m. IsBetween at.calls g m (seats_at (parts.served + 1)) its.stands (seen_in now) its.served.0) (sym most_same) between_after);
+          between = passed_over at.calls g (store_of parts).max (seats_after request (seats_at parts.served)) (parts.served + 1) (parts.served + 1) (parts.served + 1) its.stands (seen_in now) its.served.0 (omega arith) (omega arith) (omega arith) its.between;
           contents = swept.keeps.contents at.calls (ran.bytes at.calls (known_bytes s at)).contents;
           fresh = fresh_later at.calls parts.served at.fresh;
-          next = kept_by (λ x. x.next) (rebuild_next g it.stripe it.server s (numbers_of it.name s.numbers)) ∙ at.next;
-          epochs = later_epochs s.epochs its.served.0.epochs parts.served (kept_by (λ x. x.epochs) (rebuild_epochs g it.stripe it.server s (numbers_of it.name s.numbers))) at.epochs;
-          snapshot = subst (λ x. AreKept x parts.snapshot) (sym (kept_by (λ x. x.snapshot) (rebuild_snapshot g it.stripe it.server s (numbers_of it.name s.numbers)))) at.snapshot;
+          next_is = kept_by (λ x. x.next) (rebuild_next g it.stripe it.server s (numbers_of it.name s.numbers)) ∙ at.next;
+          epochs = kept_by (λ x. x.epochs) (rebuild_epochs g it.stripe it.server s (numbers_of it.name s.numbers));
+          snapshot = kept_by (λ x. x.snapshot) (rebuild_snapshot g it.stripe it.server s (numbers_of it.name s.numbers));
         }
 
-        serves_rebuild : Serves request s answer (store_of parts_after)
-        serves_rebuild = record {
-          after = its.served.0;
-          served =
-              subst (λ (b : BookOf). IsServed b.geometry now.directory.core.max request s (its.served.0, answer)) (sym book_same)
-              (subst (λ m. IsServed g m request s (its.served.0, answer)) (sym most_same) served_so);
-          stands = stands_after;
-        }
-
-      pub rebuild_is_served : ServesRequest request (store_of parts) answer (store_of parts_after)
-      rebuild_is_served = record {
-        serves = serves_rebuild;
-        same = λ i. record { geometry = ap (λ (b : BookOf). b.geometry) book_same i; max = most_same i; served = parts.served + 1; kept = (store_of parts_after).kept };
-        kept = record {
-          code = subst (λ (b : BookOf). IsGeometry b.geometry) (sym book_same) is.code;
-          wide = subst (λ (b : BookOf). 0 < stripe_length b.geometry) (sym book_same) is.wide;
-          free = (refl, swept.keeps.same.places.free);
-          book = swept.keeps.same.places.book;
-          most = refl;
-          small = subst (λ m. m < 2 ^ 32) (sym most_same) is.small;
-          servers = swept.keeps.same.places.servers;
-          client = seat_still (actor.Client 0) parts.served (parts.served + 1) parts.client (omega arith) refl refl is.client;
-          repairer = record {
-            seat = seat_now;
-            there = refl;
-            actor = ap actor_of seat_after ∙ ran.run.its.its_actor ∙ who_is;
-            unused = subst (λ n. seat_now.unused ≤ n + 1) number_is (subst (IsLow first.call.number) (sym seat_after) ran.low);
-            agrees = swept.keeps.agrees (ActorToken.Seated seat_now) (ap (same_actor actor.Sweeper) (ap actor_of seat_after ∙ ran.run.its.its_actor ∙ who_is)) (subst (Agrees left.directory.core) (sym seat_after) ran.agrees);
-          };
-          healer = seat_still (actor.Repairer 1) parts.next parts.next parts.healer (omega arith) refl refl is.healer;
-          tickets = tickets_still parts.places.directory.core now.directory.core (actor.Repairer 0) (λ n some. refl) others_still parts.served (parts.served + 1) parts.places.book now.book book_same (omega arith) parts.snapshot (store_of parts).kept.tickets is.tickets;
-          state = (is_answered is.state is.stands).0.served.0;
-          stands = stands_after is.state is.stands;
-        };
-      }
-        where
-          seat_still : (who : Actor) (n m : ℕ) (place : Option Seat) → n ≤ m → same_actor (actor.Repairer 0) who ≡ false → same_actor actor.Sweeper who ≡ false → HasSeat parts.places.directory.core who n place → HasSeat now.directory.core who m place
-          seat_still who n m place less apart unswept has = record {
-            seat = has.seat;
-            there = has.there;
-            actor = has.actor;
-            unused = (let low = has.unused in omega (arith, less, low));
-            agrees = others_still (ActorToken.Seated has.seat) (ap (same_actor (actor.Repairer 0)) has.actor ∙ apart) (ap (same_actor actor.Sweeper) has.actor ∙ unswept) has.agrees;
-          }
+      pub rebuild_is_served : ServesRequest request (store_of parts) answer (store_of (record parts { places = now; served = parts.served + 1; repairer = Some seat_now }))
+      rebuild_is_served =
+          request_is_served parts is (actor.Repairer 0) now places_left request answer parts.client (Some seat_now) parts.healer parts.next state_left (λ n some. refl)
+          (seat_still parts is (actor.Repairer 0) now places_left (actor.Client 0) parts.served (parts.served + 1) parts.client (omega arith) refl refl is.client)
+          (seat_back parts (actor.Repairer 0) first c left now ran swept who_is parts.served number_is refl seat_now seat_after)
+          (seat_still parts is (actor.Repairer 0) now places_left (actor.Repairer 1) parts.next parts.next parts.healer (omega arith) refl refl is.healer)
