@@ -44,16 +44,13 @@ ends_as_client (call.Delete name) (ended.Rebuild outcome) its = its
 abbrev pub back : Lost → Missing
 back lost = record { server = lost.server; placed = placed_epoch lost.placed; found = found_epoch lost.found }
 
-back_in : (lost : List LostChunk) → map back (map lost_in lost) ≡ map missing_in lost
+pub back_in : (lost : List LostChunk) → map back (map lost_in lost) ≡ map missing_in lost
 back_in [] = refl
 back_in (one ∷ lost) = ap (λ l. missing_in one ∷ l) (back_in lost)
 
 pub back_as : (missing : List Missing) → map back (map lost_as missing) ≡ missing
 back_as [] = refl
 back_as (one ∷ missing) = ap (λ l. one ∷ l) (back_as missing)
-
-pub same_missing : (lost : List LostChunk) (missing : List Missing) → map lost_in lost ≡ map lost_as missing → map missing_in lost ≡ missing
-same_missing lost missing e = sym (back_in lost) ∙ ap (map back) e ∙ back_as missing
 
 -- ---- what an outcome says: the answer, by the map's reply, and what it leaves where bytes are unavailable
 abbrev pub Says : Reply → Type 0 → Outcome → Answer → Type 0

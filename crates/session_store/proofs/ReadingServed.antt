@@ -1,8 +1,8 @@
 -- A read of the snapshot that is open is served.
 use Rattle.std.proofs.Common.{◌≡◌, ◌⊎◌, ℕ, zero, suc, ◌+◌, ◌-◌, ◌*◌, ◌/◌, ◌^◌, ◌<◌, ◌≤◌, nat_lt, min, Bool, true, false, if◌then◌else◌, List, [], ◌∷◌, length, map, take, drop, find, Option, None, Some, option_map, unwrap_or, All, refl, sym, ap, subst, ◌∙◌, inl, inr, arith, true≢false}
+use Rattle.std.specs.Prelude.{⊤}
 use Rattle.std.proofs.lemmas.Bool.{ltb-true, ltb-false}
 use Rattle.std.proofs.lemmas.Option.{same_Some}
-use Rattle.store_map.specs.declared.placement.LostChunk.{LostChunk}
 use Rattle.std.proofs.lemmas.List.{length-map}
 use Rattle.clay_grid.specs.Shape.{Shape, chunk_count, node_count, stripe_length}
 use Rattle.clay_model.specs.Code.{stripes_of}
@@ -44,7 +44,7 @@ use Rattle.session_store.specs.Standing.{placed_in}
 use Rattle.store_map.specs.declared.placement.Placement.TheVariants as placement
 use Rattle.std.specs.List.{range_with_len}
 use Rattle.store_core.specs.Act.{Outcome}
-use Rattle.store_core.specs.Told.{Lost, lost_in}
+use Rattle.store_core.specs.Told.{lost_in}
 use Rattle.store_core.specs.Note.{note_of}
 use Rattle.store_map.specs.declared.call.Call.TheVariants as call
 use Rattle.store_map.proofs.LimitLaws.{stripes_met-start}
@@ -75,10 +75,10 @@ use Rattle.session_store.specs.Stored.{StoreOf, places_in}
 use Rattle.session_store.specs.Standing.{readers, seats_at}
 use Rattle.session_store.specs.Serving.{Serves}
 use Rattle.session_store.specs.Kept.{ServesRequest}
-use Rattle.session_store.specs.Answers.{missing_in, AnswersRead}
+use Rattle.session_store.specs.Answers.{IsUnavailable, AnswersRead}
 use Rattle.session_store.specs.Reading.{stands_by, state_of_read, at_work, HasReadTo}
 use Rattle.session_store.proofs.Numbers.{passed_over, fresh_later}
-use Rattle.session_store.proofs.Outcomes.{same_missing}
+use Rattle.session_store.proofs.Outcomes.{back, back_in, back_as}
 use Rattle.session_store.proofs.Seating.{seat_later, tickets_later}
 use Rattle.session_store.proofs.Standing.{later_epochs}
 use Rattle.store_map.specs.declared.actor.Actor.TheVariants as actor
@@ -150,25 +150,15 @@ refused_by (Some ending.NoSuch) own given at other e = refl
 refused_by (Some ending.OutRange) own given at other e = refl
 refused_by (Some ending.NoMemory) own given at other e = absurd (cc (e))
 
-abbrev is_served : Outcome → Bool
-is_served (Outcome.Served point) = true
-is_served outcome = false
-
-abbrev is_unavailable_end : Outcome → Bool
-is_unavailable_end (Outcome.Unavailable stripe missing) = true
-is_unavailable_end outcome = false
-
-abbrev stripe_in : Outcome → ℕ
-stripe_in (Outcome.Unavailable stripe missing) = stripe
-stripe_in outcome = 0
-
 abbrev missing_in_answer : Answer → List Missing
 missing_in_answer (Answer.Unavailable stripe missing) = missing
 missing_in_answer answer = []
 
-abbrev missing_of : Outcome → List Lost
-missing_of (Outcome.Unavailable stripe missing) = missing
-missing_of outcome = []
+-- what an outcome says of the answer, by the map's reply
+abbrev Says : Reply → Outcome → Answer → Type 0
+Says r (Outcome.Served point) a = a ≡ Answer.Replied r
+Says r (Outcome.Unavailable stripe missing) a = a ≡ Answer.Unavailable stripe (map back missing)
+Says r other a = ⊤
 
 -- ---- it may run
 take_few : {X : Type 0} (n : ℕ) (xs : List X) → length (take n xs) ≤ n
@@ -378,23 +368,16 @@ module _ (parts : Parts) (may : MayServe (store_of parts)) (s : SnapshotOf) (is_
       abbrev Answers : Option Range → Answer → Type 0
       Answers f x = (x ≡ whole f) ⊎ (x ≡ Answer.NoMemory)
 
-      replied_by : (given : Reply) → answered_by ≡ given → (f : Option Range) (x : Answer) → Answers f x → Outcome.Served 0 ≡ gathered_as x → Answer.Replied given ≡ whole f
-      replied_by given same None x choice e = ap Answer.Replied (sym same)
-      replied_by given same (Some range) x (inl is) e = absurd (true≢false (ap is_served (e ∙ ap gathered_as is)))
-      replied_by given same (Some range) x (inr is) e = absurd (true≢false (ap is_served (e ∙ ap gathered_as is)))
-
-      missing_by : (stripe : ℕ) (lost : List LostChunk) (f : Option Range) (x : Answer) → Answers f x → Outcome.Unavailable stripe (map lost_in lost) ≡ gathered_as x → Answer.Unavailable stripe (map missing_in lost) ≡ whole f
-      missing_by stripe lost None x (inl is) e = absurd (true≢false (ap is_unavailable_end (e ∙ ap gathered_as is)))
-      missing_by stripe lost (Some range) x (inl is) e =
-          let same = e ∙ ap gathered_as is in
-          λ i. Answer.Unavailable (ap stripe_in same i) (same_missing lost (missing_in_answer (whole (Some range))) (ap missing_of same) i)
-      missing_by stripe lost f x (inr is) e = absurd (true≢false (ap is_unavailable_end (e ∙ ap gathered_as is)))
+      says : (f : Option Range) (x : Answer) → Answers f x → Says answered_by (gathered_as x) (whole f)
+      says None x (inl is) = subst (λ a. Says answered_by (gathered_as a) (whole None)) (sym is) refl
+      says (Some range) x (inl is) = subst (λ a. Says answered_by (gathered_as a) (whole (Some range))) (sym is) (ap (λ l. Answer.Unavailable range.stripe l) (sym (back_as (missing_in_answer (whole (Some range))))))
+      says f x (inr none) = subst (λ a. Says answered_by (gathered_as a) (whole f)) (sym none) tt
 
       -- the outcome that it came to, and what is answered then
       record Ends (answer : Answer) : Type 0 where
         outcome : Outcome
         at_end : state_of_read last ≡ CallAt.Ending outcome
-        fits : (f : Option Range) (x : Answer) → Answers f x → outcome ≡ gathered_as x → (answer ≡ Answer.NoMemory) ⊎ (answer ≡ whole f)
+        fits : (f : Option Range) → Says answered_by outcome (whole f) → (answer ≡ Answer.NoMemory) ⊎ (answer ≡ whole f)
 
       replies_so : (given : Reply) → reply_of last ≡ Some given → answered_by ≡ given
       replies_so given e = same_Some answered_by given (sym (replies one.kept.objects one.as_kept.bytes) ∙ ran.reply given e)
@@ -403,27 +386,27 @@ module _ (parts : Parts) (may : MayServe (store_of parts)) (s : SnapshotOf) (is_
       refuses given answer other e answers = record {
         outcome = Outcome.Served 0;
         at_end = refused_by last.ended (owed last.gatherings) given (state_in last.gatherings (Sequel.Serve 0)) other e;
-        fits = λ f x choice o. inr (answers ∙ replied_by given (replies_so given e) f x choice o);
+        fits = λ f says. inr (answers ∙ ap Answer.Replied (sym (replies_so given e)) ∙ sym says);
       }
 
       ends_by : (how : SnapOutcome) (answer : Answer) → EndsAs last how → AnswersRead how answer → Ends answer
       ends_by (read.Bytes bytes) answer (e, came) answers = record {
         outcome = Outcome.Served 0;
         at_end = ap (λ (ended : Option Ending). stands_by ended (state_in last.gatherings (Sequel.Serve 0))) (none_by last.ended (owed last.gatherings) bytes.items e) ∙ came (Sequel.Serve 0);
-        fits = λ f x choice o. inr (answers ∙ replied_by (reply.Bytes bytes.items) (replies_so (reply.Bytes bytes.items) e) f x choice o);
+        fits = λ f says. inr (answers ∙ ap Answer.Replied (sym (replies_so (reply.Bytes bytes.items) e)) ∙ sym says);
       }
       ends_by read.NoSuch answer e answers = refuses reply.NoSuch answer refl e answers
       ends_by read.OutRange answer e answers = refuses reply.OutRange answer refl e answers
       ends_by (read.Unavailable stripe missing) answer (none, to) answers = record {
         outcome = Outcome.Unavailable stripe (map lost_in missing.items);
         at_end = ap (λ (ended : Option Ending). stands_by ended (state_in last.gatherings (Sequel.Serve 0))) none ∙ to (Sequel.Serve 0);
-        fits = λ f x choice o. by answers f x choice o;
+        fits = λ f says. by answers f says;
       }
         where
-          by : (answer ≡ Answer.NoMemory) ⊎ (answer ≡ Answer.Unavailable stripe (map missing_in missing.items)) → (f : Option Range) (x : Answer) → Answers f x → Outcome.Unavailable stripe (map lost_in missing.items) ≡ gathered_as x → (answer ≡ Answer.NoMemory) ⊎ (answer ≡ whole f)
-          by (inl no_room) f x choice o = inl no_room
-          by (inr same) f x choice o = inr (same ∙ missing_by stripe missing.items f x choice o)
-      ends_by read.NoMemory answer e answers = record { outcome = Outcome.NoMemory; at_end = by e; fits = λ f x choice o. inl answers }
+          by : IsUnavailable stripe missing.items answer → (f : Option Range) → whole f ≡ Answer.Unavailable stripe (map back (map lost_in missing.items)) → (answer ≡ Answer.NoMemory) ⊎ (answer ≡ whole f)
+          by (inl no_room) f says = inl no_room
+          by (inr same) f says = inr (same ∙ ap (λ l. Answer.Unavailable stripe l) (sym (back_in missing.items)) ∙ sym says)
+      ends_by read.NoMemory answer e answers = record { outcome = Outcome.NoMemory; at_end = by e; fits = λ f says. inl answers }
         where
           by : (last.ended ≡ Some ending.NoMemory) ⊎ ((last.ended ≡ None) × ((after : Sequel) → state_in last.gatherings after ≡ CallAt.Ending Outcome.NoMemory)) → state_of_read last ≡ CallAt.Ending Outcome.NoMemory
           by (inl ended) = ap (λ (ended : Option Ending). stands_by ended (state_in last.gatherings (Sequel.Serve 0))) ended
@@ -471,7 +454,7 @@ module _ (parts : Parts) (may : MayServe (store_of parts)) (s : SnapshotOf) (is_
           by (inr same) = inl ((λ i. (state, same i)) ∙ ap (λ f. snap_read g name offset count f state) (sym one.there))
 
           served : IsServed g most request state (state, answer)
-          served = by (ended.fits first answered.0.served.1 (choice answered.0.allowed) answered.1)
+          served = by (ended.fits first (subst (λ o. Says answered_by o (whole first)) (sym answered.1) (says first answered.0.served.1 (choice answered.0.allowed))))
 
   -- ---- from every state
   module _ (last : ReadOf) (now : SessionPlaces) (ran : HasReadTo r parts.places last now) where
