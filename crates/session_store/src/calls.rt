@@ -8,7 +8,7 @@ ghost use Rattle.session_store.specs.Kept.{MayServe, ServesRequest};
 use crate::alone::{client_outcome, run_call};
 use crate::answers::of_call;
 use crate::parts::Parts;
-use crate::seats::{put_seat, take};
+use crate::seats::{put, take};
 use crate::sweeps::sweep_all;
 use call_machine::CallMachine;
 use clay_model::Coder;
@@ -52,7 +52,7 @@ pub(crate) fn serve_call<R: Threads + Sync, C: Coder>(
     let opening = parts.places.book.opening();
     let machine = CallMachine::client(parts.alloc, seat, 0, parts.served, call, opening, TRIES);
     let (_last, seat, outcome, _takes) = run_call(rt, coder, &mut parts.places, machine);
-    put_seat(&mut parts.client, seat);
+    put(&mut parts.client, seat);
     sweep_all(&mut parts.places);
     parts.served += 1;
     of_call(parts.alloc, client_outcome(outcome))

@@ -13,7 +13,7 @@ use crate::alone::run_call;
 use crate::lost_stripes::to_heal;
 use crate::parts::Parts;
 use crate::scrubs::lost_chunks;
-use crate::seats::{put_seat, take};
+use crate::seats::{put, take};
 use crate::sweeps::sweep_all;
 use call_machine::CallMachine;
 use call_steps::{CallOutcome, RepairOutcome};
@@ -70,7 +70,7 @@ fn heal_one<R: Threads + Sync, C: Coder>(
     let opening = parts.places.book.opening();
     let machine = CallMachine::rebuild(seat, 1, parts.next, chunk, opening);
     let (_last, seat, outcome, takes) = run_call(rt, coder, &mut parts.places, machine);
-    put_seat(&mut parts.healer, seat);
+    put(&mut parts.healer, seat);
     parts.next += 1;
     add_takes(taken, takes);
     has_rebuilt(outcome)

@@ -8,7 +8,7 @@ ghost use Rattle.session_store.specs.Kept.{MayServe, ServesRequest};
 use crate::alone::{repair_outcome, run_call};
 use crate::answers::of_rebuild;
 use crate::parts::Parts;
-use crate::seats::{put_seat, take};
+use crate::seats::{put, take};
 use crate::sweeps::sweep_all;
 use call_machine::CallMachine;
 use clay_model::Coder;
@@ -31,7 +31,7 @@ pub(crate) fn rebuild<R: Threads + Sync, C: Coder>(
     let opening = parts.places.book.opening();
     let machine = CallMachine::rebuild(seat, 0, parts.served, rebuild, opening);
     let (_last, seat, outcome, _takes) = run_call(rt, coder, &mut parts.places, machine);
-    put_seat(&mut parts.repairer, seat);
+    put(&mut parts.repairer, seat);
     sweep_all(&mut parts.places);
     parts.served += 1;
     of_rebuild(parts.alloc, repair_outcome(outcome))

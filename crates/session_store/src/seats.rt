@@ -2,7 +2,6 @@
 ghost use Rattle.std.specs.Prelude.{◌≡◌, None, Some, is_some, IsTrue};
 
 use dir_tickets::Ticket;
-use snapshot_view::Snapshot;
 use stripe_dir::Seat;
 
 /// Takes what stands there.
@@ -17,36 +16,14 @@ pub(crate) fn take<T>(place: &mut Option<T>) -> T
     }
 }
 
-/// Puts a seat where none stands.
-pub(crate) fn put_seat(place: &mut Option<Seat>, seat: Seat)
+/// Puts it where nothing stands.
+pub(crate) fn put<T>(place: &mut Option<T>, value: T)
     requires { place.old ≡ None }
-    ensures { place.new ≡ Some seat }
+    ensures { place.new ≡ Some value }
 {
-    match place.replace(seat) {
+    match place.replace(value) {
         None => {}
-        Some(_seat) => unreachable!(),
-    }
-}
-
-/// Puts tickets where none stand.
-pub(crate) fn put_tickets(place: &mut Option<Vec<Ticket>>, tickets: Vec<Ticket>)
-    requires { place.old ≡ None }
-    ensures { place.new ≡ Some tickets }
-{
-    match place.replace(tickets) {
-        None => {}
-        Some(_tickets) => unreachable!(),
-    }
-}
-
-/// Opens a snapshot where none is open.
-pub(crate) fn put_snapshot(place: &mut Option<Snapshot>, snapshot: Snapshot)
-    requires { place.old ≡ None }
-    ensures { place.new ≡ Some snapshot }
-{
-    match place.replace(snapshot) {
-        None => {}
-        Some(_snapshot) => unreachable!(),
+        Some(_value) => unreachable!(),
     }
 }
 

@@ -8,7 +8,7 @@ ghost use Rattle.session_store.specs.Serving.{ServesAll, dropped_one};
 ghost use Rattle.session_store.specs.Kept.{IsStore, MayServe, ServesRequest};
 
 use crate::parts::Parts;
-use crate::seats::{put_snapshot, put_tickets, take};
+use crate::seats::{put, take};
 use crate::sweeps::sweep_all;
 use session_rules::Answer;
 use snapshot_view::{SnapFault, SnapRefused, Snapshot};
@@ -27,11 +27,11 @@ fn snap_anew(parts: &mut Parts) -> Answer
     parts.served += 1;
     match Snapshot::take(parts.alloc, directory, tickets, number, opening) {
         Ok(snapshot) => {
-            put_snapshot(&mut parts.snapshot, snapshot);
+            put(&mut parts.snapshot, snapshot);
             Answer::Replied(Reply::Done)
         }
         Err(SnapRefused { tickets, why }) => {
-            put_tickets(&mut parts.tickets, tickets);
+            put(&mut parts.tickets, tickets);
             match why {
                 SnapFault::TooMany { objects } => Answer::TooMany(objects),
                 SnapFault::OutOfMemory => Answer::NoMemory,
@@ -63,7 +63,7 @@ pub(crate) fn drop_open(parts: &mut Parts)
 {
     let snapshot = take(&mut parts.snapshot);
     let (tickets, _points) = snapshot.release(&mut parts.places.directory);
-    put_tickets(&mut parts.tickets, tickets);
+    put(&mut parts.tickets, tickets);
     sweep_all(&mut parts.places);
 }
 

@@ -21,7 +21,7 @@ of_call-requires g c =
 
 pub returns : goal.returns
 returns g c =
-    subst (λ place. ServesRequest (Request.OfMap c.args.call.now) (store_of c.args.parts.now) c.of_call.result (store_of (record (c.args.parts.now) { places = c.sweep_all.new.places; served = c.args.parts.now.served + 1; client = place }))) (sym c.put_seat.ensures)
+    subst (λ place. ServesRequest (Request.OfMap c.args.call.now) (store_of c.args.parts.now) c.of_call.result (store_of (record (c.args.parts.now) { places = c.sweep_all.new.places; served = c.args.parts.now.served + 1; client = place }))) (sym c.put.ensures)
     (call_is_served c.args.parts.now c.requires.0 c.args.call.now c.take-seat.result c.take-seat.ensures.taken c.client-machine.result c.opening-opening.result c.opening-opening.ensures c.client-machine.ensures c.reach-reach.ensures.few
     c.run_call-last.result.0.value c.run_call-last.new.places c.sweep_all.new.places c.run_call-last.ensures.ran c.run_call-last.result.2 c.run_call-last.ensures.outcome c.client_outcome.result c.client_outcome.ensures c.sweep_all.ensures
     c.run_call-last.result.1 c.run_call-last.ensures.seat c.run_call-last.ensures.served c.of_call.result c.of_call.ensures)

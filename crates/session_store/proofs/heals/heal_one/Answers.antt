@@ -14,4 +14,4 @@ pub returns : goal.returns
 returns g c =
     healed_one c.args.parts.now c.requires.may c.args.chunk.now c.requires.there c.take-seat.result c.take-seat.ensures.taken c.rebuild-machine.result c.opening-opening.result c.opening-opening.ensures (c.rebuild-machine.ensures 1)
     c.run_call-last.result.0.value c.run_call-last.new.places c.run_call-last.ensures.ran c.run_call-last.result.2 c.run_call-last.ensures.outcome c.run_call-last.result.3 c.run_call-last.ensures.takes c.run_call-last.result.1 c.run_call-last.ensures.seat
-    c.args.taken.now c.add_takes.new.taken c.has_rebuilt.result c.put_seat.new.place c.put_seat.ensures c.add_takes.ensures c.has_rebuilt.ensures
+    c.args.taken.now c.add_takes.new.taken c.has_rebuilt.result c.put.new.place c.put.ensures c.add_takes.ensures c.has_rebuilt.ensures

@@ -24,7 +24,7 @@ returns g c =
     subst
     (λ place. ServesRequest (Request.Rebuild c.args.rebuild.now.name c.args.rebuild.now.stripe c.args.rebuild.now.server) (store_of c.args.parts.now) c.of_rebuild.result
     (store_of (record (c.args.parts.now) { places = c.sweep_all.new.places; served = c.args.parts.now.served + 1; repairer = place })))
-    (sym c.put_seat.ensures)
+    (sym c.put.ensures)
     (rebuild_is_served c.args.parts.now c.requires.may.0 c.args.rebuild.now c.requires.there c.take-seat.result c.take-seat.ensures.taken c.rebuild-machine.result c.opening-opening.result c.opening-opening.ensures (c.rebuild-machine.ensures 1)
     c.run_call-last.result.0.value c.run_call-last.new.places c.sweep_all.new.places c.run_call-last.ensures.ran c.run_call-last.result.2 c.run_call-last.ensures.outcome c.repair_outcome.result c.repair_outcome.ensures c.sweep_all.ensures
     c.run_call-last.result.1 c.run_call-last.ensures.seat c.of_rebuild.result c.of_rebuild.ensures)

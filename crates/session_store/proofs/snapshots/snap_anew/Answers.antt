@@ -13,7 +13,7 @@ returns-in-Ok c =
     subst
     (λ place. ServesRequest Request.Snap (store_of c.args.parts.now) (Answer.Replied Reply.Done)
     (store_of (record (c.args.parts.now) { places = record (c.args.parts.now.places) { directory = c.take.new.directory }; served = c.args.parts.now.served + 1; snapshot = place; tickets = c.take-tickets.new.place })))
-    (sym c.put_snapshot.ensures)
+    (sym c.put.ensures)
     (subst
     (λ place. ServesRequest Request.Snap (store_of c.args.parts.now) (Answer.Replied Reply.Done)
     (store_of (record (c.args.parts.now) { places = record (c.args.parts.now.places) { directory = c.take.new.directory }; served = c.args.parts.now.served + 1; snapshot = Some c.in-Ok.snapshot; tickets = place })))
@@ -26,7 +26,7 @@ returns-in-TooMany c =
     subst
     (λ place. ServesRequest Request.Snap (store_of c.args.parts.now) (Answer.TooMany c.in-TooMany.objects)
     (store_of (record (c.args.parts.now) { places = record (c.args.parts.now.places) { directory = c.take.new.directory }; served = c.args.parts.now.served + 1; tickets = place })))
-    (sym c.put_tickets.ensures)
+    (sym c.put-in-Err.ensures)
     (subst
     (λ place. ServesRequest Request.Snap (store_of c.args.parts.now) (Answer.TooMany c.in-TooMany.objects)
     (store_of (record (c.args.parts.now) { places = record (c.args.parts.now.places) { directory = c.take.new.directory }; served = c.args.parts.now.served + 1; snapshot = place; tickets = Some c.in-Err.field-0.tickets })))
@@ -39,7 +39,7 @@ returns-in-OutOfMemory c =
     subst
     (λ place. ServesRequest Request.Snap (store_of c.args.parts.now) Answer.NoMemory
     (store_of (record (c.args.parts.now) { places = record (c.args.parts.now.places) { directory = c.take.new.directory }; served = c.args.parts.now.served + 1; tickets = place })))
-    (sym c.put_tickets.ensures)
+    (sym c.put-in-Err.ensures)
     (subst
     (λ place. ServesRequest Request.Snap (store_of c.args.parts.now) Answer.NoMemory
     (store_of (record (c.args.parts.now) { places = record (c.args.parts.now.places) { directory = c.take.new.directory }; served = c.args.parts.now.served + 1; snapshot = place; tickets = Some c.in-Err.field-0.tickets })))
