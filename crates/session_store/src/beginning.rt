@@ -69,19 +69,20 @@ fn add_tickets(seats: &mut Vec<Seat>, tickets: &mut Vec<Ticket>, count: u32)
 fn with_seats(
     alloc: Global,
     places: SessionPlaces,
-    seats: &mut Vec<Seat>,
+    mut seats: Vec<Seat>,
     mut tickets: Vec<Ticket>,
 ) -> Parts
     requires places { AreNew places.book.geometry places.directory.core.max places }
-    requires seats { seats.old.items ≡ session_seats 64 }
+    requires seats { seats.items ≡ session_seats 64 }
     requires none { tickets.items ≡ [] }
     requires room { 64 ≤ vec_capacity tickets }
     ensures { IsFirst places.book.geometry places.directory.core.max (store_of result) }
 {
     let client = seats.remove(0);
-    add_tickets(seats, &mut tickets, READERS);
+    add_tickets(&mut seats, &mut tickets, READERS);
     let repairer = seats.remove(0);
     let healer = seats.remove(0);
+    seats.destroy_empty();
     Parts {
         alloc,
         places,
@@ -95,31 +96,16 @@ fn with_seats(
     }
 }
 
-// Seats that nobody takes are spent.
-fn leave_seats(mut seats: Vec<Seat>) {
-    for _left in 0..seats.len() {
-        if let Some(seat) = seats.pop() {
-            seat.leave();
-        }
-    }
-    seats.destroy_empty();
-}
-
 /// A store without objects, of a code, whose objects may have `max` bytes each.
 pub(crate) fn new_parts(alloc: Global, geometry: Geometry, max: u32) -> Result<Parts, AllocError>
     ensures { IfOk result (λ parts. IsFirst geometry max (store_of parts)) }
 {
-    let (places, mut seats) = new_places(alloc, geometry, max)?;
-    match Vec::with_capacity(alloc, READERS as usize) {
-        Ok(tickets) => {
-            let parts = with_seats(alloc, places, &mut seats, tickets);
-            leave_seats(seats);
-            Ok(parts)
-        }
-        Err(e) => {
-            leave_seats(seats);
-            drop(places);
-            Err(e)
+    let tickets = Vec::with_capacity(alloc, READERS as usize)?;
+    match new_places(alloc, geometry, max) {
+        Ok((places, seats)) => Ok(with_seats(alloc, places, seats, tickets)),
+        Err(error) => {
+            tickets.destroy_empty();
+            Err(error)
         }
     }
 }

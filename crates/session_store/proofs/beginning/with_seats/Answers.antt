@@ -1,10 +1,18 @@
-use Rattle.std.proofs.Common.{◌≡◌, ◌∷◌, [], List, None, Some, get_or, refl, ap, ◌∙◌}
+use Rattle.std.proofs.Common.{rules, vec_len, ◌≡◌, ◌∷◌, [], List, length, None, Some, get_or, refl, ap, ◌∙◌}
 use Rattle.std.specs.List.{remove}
 use Rattle.store_core.specs.Agreement.{Seat, ActorToken}
 use Rattle.stripe_dir.specs.Seats.{client_seat, repairer_seat}
 use Rattle.session_store.specs.declared.parts.Parts.{Parts}
 use Rattle.session_store.proofs.First.{first_store}
 use Rattle.session_store.proofs.beginning.with_seats.Goals as goal
+
+pub destroy_empty-requires : goal.destroy_empty-requires
+destroy_empty-requires c =
+    let count : vec_len c.remove-healer.new.self ≡ length c.remove-healer.new.self.items = search rules in
+    count
+    ∙ ap length
+    (c.remove-healer.ensures.items
+    ∙ ap (λ (l : List Seat). remove l 0) (c.remove-repairer.ensures.items ∙ ap (λ (l : List Seat). remove l 0) c.add_tickets.ensures.seats))
 
 pub returns : goal.returns
 returns c =
