@@ -1,15 +1,11 @@
 //! A call that runs alone.
 ghost use Rattle.std.specs.Prelude.{◌≡◌, ◌++◌, ◌+◌, ◌&&◌, false};
-ghost use Rattle.store_core.specs.Act.{Act as CoreAct};
-ghost use Rattle.store_core.specs.Agreement.{ActorToken};
 ghost use Rattle.stripe_stamps.specs.Sealed.{Sealed};
-ghost use Rattle.call_steps.specs.CallOf.{act_of, taken_of};
 ghost use Rattle.call_steps.specs.Steps.{need_of};
-ghost use Rattle.call_machine.specs.Ends.{IfBytesServed, IsEndOf};
-ghost use Rattle.call_machine.specs.Kinds.{Machine, machine_of, IfReads};
-ghost use Rattle.call_steps.specs.CallOutcomes.{call_outcome_of};
+ghost use Rattle.call_machine.specs.Ends.{IsEndOf};
+ghost use Rattle.call_machine.specs.Kinds.{Machine};
 ghost use Rattle.call_steps.specs.declared.outcome.CallOutcome.TheVariants as ended;
-ghost use Rattle.session_store.specs.Ends.{IsOfClient};
+ghost use Rattle.session_store.specs.Ends.{EndsAlone, IsOfClient};
 ghost use Rattle.session_store.specs.Stepping.{GoesOn, HasPlace, IsCoded, MayStep, HasStepped};
 ghost use Rattle.session_store.specs.Running.{MayRun, HasRunTo};
 
@@ -18,7 +14,6 @@ use call_machine::CallMachine;
 use call_steps::{CallOutcome, Need, Outcome, RepairOutcome};
 use clay_model::Coder;
 use read_ledger::Takes;
-use std::snapshot::Snapshot;
 use std::thread::Threads;
 use stripe_dir::Seat;
 
@@ -71,25 +66,18 @@ fn run_to_end<R: Threads + Sync, C: Coder>(
 }
 
 /// The call runs alone to its end: its actor's seat, how it ended, and what it has taken, or none where
-/// it has taken nothing; and for contracts the call as it came to its end.
-pub(crate) fn run_call<'a, R: Threads + Sync, C: Coder>(
+/// it has taken nothing.
+pub(crate) fn run_call<R: Threads + Sync, C: Coder>(
     rt: &R,
     coder: &C,
     places: &mut SessionPlaces,
-    mut call: CallMachine<'a>,
-) -> (Snapshot<CallMachine<'a>>, Seat, CallOutcome, Option<Takes>)
+    mut call: CallMachine,
+) -> (Seat, CallOutcome, Option<Takes>)
     requires { MayRun call places.old }
-    ensures ran { HasRunTo call.entry places.old result.0.value places.new }
-    ensures seat { ActorToken.Seated result.1 ≡ result.0.value.call.token }
-    ensures kind { IsEndOf (machine_of result.0.value.asked) result.2 }
-    ensures outcome { act_of result.0.value.call ≡ CoreAct.Finish (call_outcome_of result.2) }
-    ensures served { IfReads (machine_of result.0.value.asked) (IfBytesServed result.2 (λ bytes. bytes.items ≡ result.0.value.owed)) }
-    ensures takes { result.3 ≡ taken_of result.0.value.call.takes }
+    ensures { EndsAlone call.entry places.old result.0 result.1 result.2 places.new }
 {
     run_to_end(rt, coder, places, &mut call);
-    let last = Snapshot::of(&call);
-    let (seat, outcome, takes) = call.finish();
-    (last, seat, outcome, takes)
+    call.finish()
 }
 
 /// How a client's call ended.

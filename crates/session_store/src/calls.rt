@@ -51,7 +51,7 @@ pub(crate) fn serve_call<R: Threads + Sync, C: Coder>(
     let seat = take(&mut parts.client);
     let opening = parts.places.book.opening();
     let machine = CallMachine::client(parts.alloc, seat, 0, parts.served, call, opening, TRIES);
-    let (_last, seat, outcome, _takes) = run_call(rt, coder, &mut parts.places, machine);
+    let (seat, outcome, _takes) = run_call(rt, coder, &mut parts.places, machine);
     put(&mut parts.client, seat);
     sweep_all(&mut parts.places);
     parts.served += 1;

@@ -69,7 +69,7 @@ fn heal_one<R: Threads + Sync, C: Coder>(
     let seat = take(&mut parts.healer);
     let opening = parts.places.book.opening();
     let machine = CallMachine::rebuild(seat, 1, parts.next, chunk, opening);
-    let (_last, seat, outcome, takes) = run_call(rt, coder, &mut parts.places, machine);
+    let (seat, outcome, takes) = run_call(rt, coder, &mut parts.places, machine);
     put(&mut parts.healer, seat);
     parts.next += 1;
     add_takes(taken, takes);

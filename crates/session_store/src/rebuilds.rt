@@ -30,7 +30,7 @@ pub(crate) fn rebuild<R: Threads + Sync, C: Coder>(
     let seat = take(&mut parts.repairer);
     let opening = parts.places.book.opening();
     let machine = CallMachine::rebuild(seat, 0, parts.served, rebuild, opening);
-    let (_last, seat, outcome, _takes) = run_call(rt, coder, &mut parts.places, machine);
+    let (seat, outcome, _takes) = run_call(rt, coder, &mut parts.places, machine);
     put(&mut parts.repairer, seat);
     sweep_all(&mut parts.places);
     parts.served += 1;
