@@ -1,10 +1,13 @@
 //! A share without blocks: whole, with each byte changed, cut off, longer, and with each read failing.
+use crate::expect_same;
 use clay_aloof::AloofGeometry;
 use crc64::Crc64;
 use file_bytes::MemFile;
 use share_files::{ShareFault, check_share};
 use share_format::ShareHeader;
 use std::alloc::{AllocError, Global};
+use std::process::Abort;
+use std::test::Fail;
 
 // The fault of a file that should be the share of a header. A call moves forty bytes.
 fn fault_of(
@@ -18,42 +21,55 @@ fn fault_of(
     Ok(check_share(alloc, crc, header, &mut file).err())
 }
 
-#[test]
-fn a_whole_share_passes_and_no_other(rt: HostRuntime) -> Result<(), AllocError> {
-    let crc = Crc64::new(rt.alloc())?;
-    let Ok(geometry) = AloofGeometry::new(2, 3, 3, 1) else {
-        return Ok(());
-    };
-    let header = ShareHeader::new(geometry, 3, 0, 0);
-    let mut share = header.bytes(rt.alloc(), &crc)?;
-    let other = ShareHeader::new(geometry, 4, 0, 0);
-    assert_eq!(rt;
-        fault_of(rt.alloc(), &crc, &other, &share, None)?,
-        Some(ShareFault::Foreign)
-    );
-    assert_eq!(rt; fault_of(rt.alloc(), &crc, &header, &share, None)?, None);
+// Cuts the share off before each byte, and changes each.
+fn check_each_byte(
+    rt: &impl Abort,
+    alloc: Global,
+    crc: &Crc64,
+    header: &ShareHeader,
+    share: &mut [u8],
+) -> Result<(), AllocError> {
     for at in 0..share.len() {
+        let cut_off = fault_of(alloc, crc, header, &share[..at], None)?;
+        expect_same(rt, cut_off, Some(ShareFault::Short));
         share[at] ^= 4;
-        assert_eq!(rt;
-            fault_of(rt.alloc(), &crc, &header, &share, None)?.is_some(),
-            true
-        );
+        let changed = fault_of(alloc, crc, header, share, None)?;
+        expect_same(rt, changed.is_some(), true);
         share[at] ^= 4;
-        assert_eq!(rt;
-            fault_of(rt.alloc(), &crc, &header, &share[..at], None)?,
-            Some(ShareFault::Short)
-        );
     }
+    Ok(())
+}
+
+// Each of five reads fails.
+fn check_each_read(
+    rt: &impl Abort,
+    alloc: Global,
+    crc: &Crc64,
+    header: &ShareHeader,
+    share: &[u8],
+) -> Result<(), AllocError> {
     for call in 0..5u64 {
-        assert_eq!(rt;
-            fault_of(rt.alloc(), &crc, &header, &share, Some(call))?,
-            Some(ShareFault::ReadFault)
-        );
+        let unread = fault_of(alloc, crc, header, share, Some(call))?;
+        expect_same(rt, unread, Some(ShareFault::ReadFault));
     }
+    Ok(())
+}
+
+#[test]
+fn a_whole_share_passes_and_no_other(rt: HostRuntime) -> Result<(), Fail> {
+    let alloc = rt.alloc();
+    let geometry = AloofGeometry::new(2, 3, 3, 1)?;
+    let header = ShareHeader::new(geometry, 3, 0, 0);
+    let other = ShareHeader::new(geometry, 4, 0, 0);
+    let crc = Crc64::new(alloc)?;
+    let mut share = header.bytes(alloc, &crc)?;
+    let foreign = fault_of(alloc, &crc, &other, &share, None)?;
+    expect_same(&rt, foreign, Some(ShareFault::Foreign));
+    expect_same(&rt, fault_of(alloc, &crc, &header, &share, None)?, None);
+    check_each_byte(&rt, alloc, &crc, &header, &mut share)?;
+    check_each_read(&rt, alloc, &crc, &header, &share)?;
     share.push(0)?;
-    assert_eq!(rt;
-        fault_of(rt.alloc(), &crc, &header, &share, None)?,
-        Some(ShareFault::Longer)
-    );
+    let longer = fault_of(alloc, &crc, &header, &share, None)?;
+    expect_same(&rt, longer, Some(ShareFault::Longer));
     Ok(())
 }

@@ -1,6 +1,7 @@
 //! The numbers of shapes, and shapes that are refused.
-use crate::expect_numbers;
+use crate::{expect_numbers, expect_same};
 use clay_grid::{BadGeometry, Geometry};
+use std::process::Abort;
 use std::test::Fail;
 
 /// k, m; q, nu, t, alpha, the subchunks of each helper in a repair
@@ -27,28 +28,25 @@ fn numbers_of_shapes(rt: HostRuntime) -> Result<(), Fail> {
             &[g.nu(), g.t(), g.alpha(), g.n()],
             &[nu, t, alpha, k + m],
         );
-        assert!(rt; g.repair_layers(rt.alloc(), 0)?.len() == helper as usize);
+        let layers = g.repair_layers(rt.alloc(), 0)?;
+        expect_same(&rt, layers.len(), helper as usize);
     }
     Ok(())
 }
 
-#[test]
-fn refusals(rt: HostRuntime) {
-    let refused = |k, m, w| Geometry::new(k, m, w).err();
-    assert!(rt; refused(1, 1, 0) == Some(BadGeometry::DataCount));
-    assert!(rt; refused(2, 9, 0) == Some(BadGeometry::ParityCount));
-    assert!(rt; refused(20, 4, 0) == Some(BadGeometry::Layers));
-    assert!(rt; refused(u32::MAX, 2, 1) == Some(BadGeometry::Layers));
-    assert!(rt; refused(16, 4, 65_537) == Some(BadGeometry::Width));
-    assert!(rt; refused(16, 4, 1025) == Some(BadGeometry::ChunkSize));
-    assert!(rt; refused(16, 4, 1024) == None);
+fn expect_refusal(rt: &impl Abort, k: u32, m: u32, w: u32, why: Option<BadGeometry>) {
+    expect_same(rt, Geometry::new(k, m, w).err(), why);
 }
 
 #[test]
-fn lengths(rt: HostRuntime) -> Result<(), Fail> {
-    let g = Geometry::new(2, 2, 1)?;
-    expect_numbers(&rt, &[g.chunk_len(), g.stripe_len()], &[4, 8]);
-    Ok(())
+fn refusals(rt: HostRuntime) {
+    expect_refusal(&rt, 1, 1, 0, Some(BadGeometry::DataCount));
+    expect_refusal(&rt, 2, 9, 0, Some(BadGeometry::ParityCount));
+    expect_refusal(&rt, 20, 4, 0, Some(BadGeometry::Layers));
+    expect_refusal(&rt, u32::MAX, 2, 1, Some(BadGeometry::Layers));
+    expect_refusal(&rt, 16, 4, 65_537, Some(BadGeometry::Width));
+    expect_refusal(&rt, 16, 4, 1025, Some(BadGeometry::ChunkSize));
+    expect_refusal(&rt, 16, 4, 1024, None);
 }
 
 #[test]
@@ -68,16 +66,11 @@ fn partners(rt: HostRuntime) -> Result<(), Fail> {
 }
 
 #[test]
-fn layers_of_a_small_grid(rt: HostRuntime) -> Result<(), Fail> {
+fn lengths_and_layers_of_a_small_grid(rt: HostRuntime) -> Result<(), Fail> {
     let g = Geometry::new(2, 2, 1)?;
+    expect_numbers(&rt, &[g.chunk_len(), g.stripe_len()], &[4, 8]);
     let by_score = g.layers_by_score(rt.alloc(), &[true, false, true, false])?;
     expect_numbers(&rt, &by_score, &[3, 1, 2, 0]);
-    Ok(())
-}
-
-#[test]
-fn repair_layers(rt: HostRuntime) -> Result<(), Fail> {
-    let g = Geometry::new(2, 2, 1)?;
     let layers = g.repair_layers(rt.alloc(), 3)?;
     expect_numbers(&rt, &layers, &[1, 3]);
     Ok(())

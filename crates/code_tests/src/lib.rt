@@ -40,9 +40,11 @@ mod told_cuts;
 mod worked_blocks;
 
 #[cfg(test)]
+use std::fmt::Debug;
+#[cfg(test)]
 use std::process::Abort;
 
-// One function compares, and tells both sides where they differ: each `assert_eq` of a test is proved with all that it prints.
+// Three functions compare, and tell both sides where they differ: an `assert_eq` is proved with all that it prints, so a test calls one.
 #[cfg(test)]
 fn expect_bytes(rt: &impl Abort, found: &[u8], wanted: &[u8]) {
     assert_eq!(rt; found, wanted);
@@ -50,5 +52,10 @@ fn expect_bytes(rt: &impl Abort, found: &[u8], wanted: &[u8]) {
 
 #[cfg(test)]
 fn expect_numbers(rt: &impl Abort, found: &[u32], wanted: &[u32]) {
+    assert_eq!(rt; found, wanted);
+}
+
+#[cfg(test)]
+fn expect_same<T: Copy + Debug + PartialEq>(rt: &impl Abort, found: T, wanted: T) {
     assert_eq!(rt; found, wanted);
 }

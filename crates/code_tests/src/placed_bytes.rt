@@ -1,4 +1,7 @@
 //! Files that move few bytes a call, and whose calls fail in turn.
+ghost use Rattle.std.specs.Prelude.{◌+◌, ◌<◌, ◌^◌, length};
+
+use crate::{expect_bytes, expect_same};
 use clay_bytes::WriteFault;
 use file_bytes::{MemFile, ReadFault, StdFile, read_exact_at, write_all_at};
 use std::alloc::{AllocError, Global};
@@ -16,40 +19,49 @@ fn ten_bytes(alloc: Global, failing: Option<u64>) -> Result<MemFile, AllocError>
 fn bytes_come_back_in_pieces(rt: HostRuntime) -> Result<(), AllocError> {
     let mut file = ten_bytes(rt.alloc(), None)?;
     let mut got = [0u8; 5];
-    assert_eq!(rt; write_all_at(&mut file, 8, b"s and on"), Ok(()));
-    assert_eq!(rt; write_all_at(&mut file, 0, b"two"), Ok(()));
-    assert_eq!(rt; read_exact_at(&mut file, 6, &mut got), Ok(()));
-    assert_eq!(rt; got.as_slice(), b"tes a".as_slice());
-    assert_eq!(rt; file.bytes(), b"two bytes and on".as_slice());
+    expect_same(&rt, write_all_at(&mut file, 8, b"s and on"), Ok(()));
+    expect_same(&rt, write_all_at(&mut file, 0, b"two"), Ok(()));
+    expect_same(&rt, read_exact_at(&mut file, 6, &mut got), Ok(()));
+    expect_bytes(&rt, &got, b"tes a");
+    expect_bytes(&rt, file.bytes(), b"two bytes and on");
     Ok(())
 }
 
-#[test]
-fn each_read_fails_in_turn(rt: HostRuntime) -> Result<(), AllocError> {
+// What reading ten bytes from a position on answers, where a call fails.
+fn read_from(alloc: Global, at: u64, failing: Option<u64>) -> Result<Option<ReadFault>, AllocError>
+    requires { at + 10 < 2 ^ 64 }
+{
+    let mut file = ten_bytes(alloc, failing)?;
     let mut got = [0u8; 10];
-    for call in 0..4u64 {
-        let mut file = ten_bytes(rt.alloc(), Some(call))?;
-        assert_eq!(rt;
-            read_exact_at(&mut file, 0, &mut got),
-            Err(ReadFault::Failed)
-        );
-    }
-    let mut file = ten_bytes(rt.alloc(), None)?;
-    assert_eq!(rt;
-        read_exact_at(&mut file, 1, &mut got),
-        Err(ReadFault::Ended)
-    );
-    Ok(())
+    Ok(read_exact_at(&mut file, at, &mut got).err())
+}
+
+// What writing these bytes answers, where a call fails.
+fn write_to(
+    alloc: Global,
+    at: u64,
+    bytes: &[u8],
+    failing: Option<u64>,
+) -> Result<Option<WriteFault>, AllocError>
+    requires { at + length bytes.now < 2 ^ 64 }
+{
+    let mut file = ten_bytes(alloc, failing)?;
+    Ok(write_all_at(&mut file, at, bytes).err())
 }
 
 #[test]
-fn each_write_fails_in_turn(rt: HostRuntime) -> Result<(), AllocError> {
+fn each_call_fails_in_turn(rt: HostRuntime) -> Result<(), AllocError> {
+    let alloc = rt.alloc();
     for call in 0..4u64 {
-        let mut file = ten_bytes(rt.alloc(), Some(call))?;
-        assert_eq!(rt; write_all_at(&mut file, 2, b"ten bytes!"), Err(WriteFault));
+        let unread = read_from(alloc, 0, Some(call))?;
+        expect_same(&rt, unread, Some(ReadFault::Failed));
+        let unwritten = write_to(alloc, 2, b"ten bytes!", Some(call))?;
+        expect_same(&rt, unwritten, Some(WriteFault));
     }
-    let mut full = ten_bytes(rt.alloc(), None)?;
-    assert_eq!(rt; write_all_at(&mut full, 1 << 40, b"far"), Err(WriteFault));
+    let ended = read_from(alloc, 1, None)?;
+    expect_same(&rt, ended, Some(ReadFault::Ended));
+    let too_far = write_to(alloc, 1 << 40, b"far", None)?;
+    expect_same(&rt, too_far, Some(WriteFault));
     Ok(())
 }
 
@@ -71,9 +83,7 @@ impl FileExt for Stuck {
 fn a_write_that_takes_nothing_fails(rt: HostRuntime) {
     let mut file = StdFile::new(Stuck);
     let mut got = [0u8; 1];
-    assert_eq!(rt; write_all_at(&mut file, 0, b"x"), Err(WriteFault));
-    assert_eq!(rt;
-        read_exact_at(&mut file, 0, &mut got),
-        Err(ReadFault::Failed)
-    );
+    expect_same(&rt, write_all_at(&mut file, 0, b"x"), Err(WriteFault));
+    let read = read_exact_at(&mut file, 0, &mut got);
+    expect_same(&rt, read, Err(ReadFault::Failed));
 }
