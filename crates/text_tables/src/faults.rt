@@ -81,14 +81,20 @@ pub fn same(found: &[u8], wanted: &[u8]) -> Result<(), Fail> {
     if found == wanted {
         return Ok(());
     }
-    Err(Fail::from("not what is wanted"))
+    match str::from_utf8(found) {
+        Ok(found) => Err(Fail::new(format_args!("found {found}"))),
+        Err(_) => Err(Fail::from("found bytes that are no text")),
+    }
 }
 
 fn has_fault(alloc: Global, reader: Reader, around: Around<'_>, row: &[u8]) -> Result<(), Fail> {
     let (fault, text) = parts(row)?;
     let whole = joined(alloc, around.before, text, around.behind)?;
     let found = fault_in(alloc, reader, &whole)?;
-    same(found.as_bytes(), fault)
+    if found.as_bytes() == fault {
+        return Ok(());
+    }
+    Err(failed(row))
 }
 
 /// Holds the text of each row, with what stands around it, against the fault of that row, which is written
