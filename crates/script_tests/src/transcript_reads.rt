@@ -1,7 +1,5 @@
 //! Transcripts that are read, whole and damaged.
-use script_text::ScriptFault;
 use std::alloc::Global;
-use std::process::Abort;
 use std::test::Fail;
 use store_map::Transcript;
 use text_tables::faults::{Around, Reader, have_faults, same};
@@ -41,19 +39,88 @@ T 2 18446744073709551615 0 2
 end
 ";
 
-// The ends of transcripts with two servers.
-const SERVERS: &[u8] = b"T 0 0 0 0\nT 1 0 0 0\nend\n";
-
-fn read(alloc: Global, text: &[u8], servers: u32) -> Result<Result<Transcript, ScriptFault>, Fail> {
+fn transcript_of(alloc: Global, text: &[u8], servers: u32) -> Result<Transcript, Fail> {
     if text.len() >= 1 << 31 {
         return Err(Fail::from("too long"));
     }
-    Ok(read_transcript(alloc, text, servers))
+    match read_transcript(alloc, text, servers) {
+        Ok(transcript) => Ok(transcript),
+        Err(_) => Err(Fail::from("refused")),
+    }
 }
+
+// It is borrowed, since each `?` in a function that owns a transcript drops all of its lists.
+fn is_whole(alloc: Global, transcript: &Transcript) -> Result<(), Fail> {
+    if transcript.history.len() != 8 || transcript.servers.len() != 3 {
+        return Err(Fail::from("other numbers of lines"));
+    }
+    same(&write_transcript(alloc, transcript)?, WHOLE)
+}
+
+#[test]
+fn reads_every_form_of_line(rt: HostRuntime) -> Result<(), Fail> {
+    is_whole(rt.alloc(), &transcript_of(rt.alloc(), WHOLE, 3)?)
+}
+
+// The ends of transcripts with two servers.
+const SERVERS: &[u8] = b"T 0 0 0 0\nT 1 0 0 0\nend\n";
+
+const WITHOUT_THEIR_FORM: &[u8] = b"\
+    line 1: syntax>\n|\
+    line 1: syntax>H 00 c0.0 ok\n|\
+    line 1: syntax>H 18446744073709551616 c0.0 ok\n|\
+    line 1: syntax>H 0 c4294967296.0 ok\n|\
+    line 1: syntax>H 0 c0 ok\n|\
+    line 1: syntax>H 0 r0.0 ok\n|\
+    line 1: syntax>H 0 c0.0 ok \n|\
+    line 1: syntax>H 0  c0.0 ok\n|\
+    line 1: syntax>H 0 c0.0\n|\
+    line 1: syntax>H 0 c0.0 bytes hex:0\n|\
+    line 1: syntax>H 0 c0.0 bytes hex:0A\n|\
+    line 1: syntax>H 0 c0.0 length -1\n|\
+    line 1: syntax>X r0.0 nomem\n|\
+    line 1: syntax>X c0.0 contended\n|\
+    line 1: syntax>X c0.0 contended 1\n|\
+    line 1: syntax>X c0.0 contended 1/2/3\n|\
+    line 1: syntax>X c0.0 unavailable stripe 0 missing\n|\
+    line 1: syntax>X c0.0 unavailable stripe 0 missing 0/a1/0\n|\
+    line 1: syntax>X c0.0 unavailable stripe 0 missing 0/1/u0\n|\
+    line 1: syntax>X c0.0 rebuilt\n|\
+    line 1: syntax>R c0.0 here\n|\
+    line 1: syntax>R r0.0 away\n|\
+    line 1: syntax>O c0.0 \n|\
+    line 1: syntax>L A 0\n|\
+    line 1: syntax>G c0.0 1\n|\
+    line 1: syntax>G c0.0 1 0 0\n|\
+    line 1: syntax>G c0.0 0 0\n|\
+    line 1: syntax>T 1 0 0 0\n|\
+    line 1: syntax>end\n";
+
+const OUT_OF_ORDER: &[u8] = b"\
+    line 2: syntax>H 1 c0.0 ok\nH 1 c0.1 ok\n|\
+    line 2: syntax>X c0.0 nomem\nH 1 c0.1 ok\n|\
+    line 2: syntax>X c1.0 nomem\nX c0.1 nomem\n|\
+    line 2: syntax>X c1.1 nomem\nX c1.1 nomem\n|\
+    line 2: syntax>O r0.0\nO c1.1\n|\
+    line 3: syntax>L a 0\nL a 0\nO c0.0\n|\
+    line 2: syntax>G c0.1 1 0\nG c0.0 0 1\n|\
+    line 2: syntax>T 0 0 0 0\nT 0 0 0 0\n|\
+    line 2: syntax>T 0 0 0 0\nend\n|\
+    line 3: syntax>T 0 0 0 0\nT 1 0 0 0\nT 2 0 0 0\n|\
+    line 4: syntax>T 0 0 0 0\nT 1 0 0 0\nend\n";
+
+const WITHOUT_THE_LAST_LINE: &[u8] = b"\
+    line 1: missing end>|\
+    line 1: missing end>en|\
+    line 1: missing end>end|\
+    line 2: missing end>O c0.0\nO c0.1|\
+    line 2: syntax>O c0.1\nO c0.0\nO c0|\
+    line 2: syntax>end\nx|\
+    line 2: syntax>end\n\n";
 
 // Holds the text of each row of a table, with this behind it, against the fault of that row.
 fn has_faults(
-    rt: &(impl Abort + AllocGlobal),
+    alloc: Global,
     behind: &[u8],
     servers: u32,
     rows: usize,
@@ -63,98 +130,14 @@ fn has_faults(
         before: b"",
         behind,
     };
-    have_faults(rt.alloc(), Reader::Transcript(servers), around, rows, table)
+    have_faults(alloc, Reader::Transcript(servers), around, rows, table)
 }
 
 #[test]
-fn reads_every_form_of_line(rt: HostRuntime) -> Result<(), Fail> {
-    let Ok(transcript) = read(rt.alloc(), WHOLE, 3)? else {
-        return Err(Fail::from("refused"));
-    };
-    assert!(rt; transcript.history.len() == 8);
-    assert!(rt; transcript.servers.len() == 3);
-    let text = write_transcript(rt.alloc(), &transcript)?;
-    same(&text, WHOLE)
-}
-
-#[test]
-fn refuses_lines_without_their_form(rt: HostRuntime) -> Result<(), Fail> {
-    has_faults(
-        &rt,
-        SERVERS,
-        2,
-        29,
-        b"\
-        line 1: syntax>\n|\
-        line 1: syntax>H 00 c0.0 ok\n|\
-        line 1: syntax>H 18446744073709551616 c0.0 ok\n|\
-        line 1: syntax>H 0 c4294967296.0 ok\n|\
-        line 1: syntax>H 0 c0 ok\n|\
-        line 1: syntax>H 0 r0.0 ok\n|\
-        line 1: syntax>H 0 c0.0 ok \n|\
-        line 1: syntax>H 0  c0.0 ok\n|\
-        line 1: syntax>H 0 c0.0\n|\
-        line 1: syntax>H 0 c0.0 bytes hex:0\n|\
-        line 1: syntax>H 0 c0.0 bytes hex:0A\n|\
-        line 1: syntax>H 0 c0.0 length -1\n|\
-        line 1: syntax>X r0.0 nomem\n|\
-        line 1: syntax>X c0.0 contended\n|\
-        line 1: syntax>X c0.0 contended 1\n|\
-        line 1: syntax>X c0.0 contended 1/2/3\n|\
-        line 1: syntax>X c0.0 unavailable stripe 0 missing\n|\
-        line 1: syntax>X c0.0 unavailable stripe 0 missing 0/a1/0\n|\
-        line 1: syntax>X c0.0 unavailable stripe 0 missing 0/1/u0\n|\
-        line 1: syntax>X c0.0 rebuilt\n|\
-        line 1: syntax>R c0.0 here\n|\
-        line 1: syntax>R r0.0 away\n|\
-        line 1: syntax>O c0.0 \n|\
-        line 1: syntax>L A 0\n|\
-        line 1: syntax>G c0.0 1\n|\
-        line 1: syntax>G c0.0 1 0 0\n|\
-        line 1: syntax>G c0.0 0 0\n|\
-        line 1: syntax>T 1 0 0 0\n|\
-        line 1: syntax>end\n",
-    )
-}
-
-#[test]
-fn refuses_lines_out_of_order(rt: HostRuntime) -> Result<(), Fail> {
-    has_faults(
-        &rt,
-        SERVERS,
-        2,
-        11,
-        b"\
-        line 2: syntax>H 1 c0.0 ok\nH 1 c0.1 ok\n|\
-        line 2: syntax>X c0.0 nomem\nH 1 c0.1 ok\n|\
-        line 2: syntax>X c1.0 nomem\nX c0.1 nomem\n|\
-        line 2: syntax>X c1.1 nomem\nX c1.1 nomem\n|\
-        line 2: syntax>O r0.0\nO c1.1\n|\
-        line 3: syntax>L a 0\nL a 0\nO c0.0\n|\
-        line 2: syntax>G c0.1 1 0\nG c0.0 0 1\n|\
-        line 2: syntax>T 0 0 0 0\nT 0 0 0 0\n|\
-        line 2: syntax>T 0 0 0 0\nend\n|\
-        line 3: syntax>T 0 0 0 0\nT 1 0 0 0\nT 2 0 0 0\n|\
-        line 4: syntax>T 0 0 0 0\nT 1 0 0 0\nend\n",
-    )
-}
-
-#[test]
-fn misses_the_last_line(rt: HostRuntime) -> Result<(), Fail> {
-    has_faults(
-        &rt,
-        b"",
-        0,
-        7,
-        b"\
-        line 1: missing end>|\
-        line 1: missing end>en|\
-        line 1: missing end>end|\
-        line 2: missing end>O c0.0\nO c0.1|\
-        line 2: syntax>O c0.1\nO c0.0\nO c0|\
-        line 2: syntax>end\nx|\
-        line 2: syntax>end\n\n",
-    )?;
-    assert!(rt; read(rt.alloc(), b"end\n", 0)?.is_ok());
+fn refuses_damaged_transcripts(rt: HostRuntime) -> Result<(), Fail> {
+    has_faults(rt.alloc(), SERVERS, 2, 29, WITHOUT_THEIR_FORM)?;
+    has_faults(rt.alloc(), SERVERS, 2, 11, OUT_OF_ORDER)?;
+    has_faults(rt.alloc(), b"", 0, 7, WITHOUT_THE_LAST_LINE)?;
+    let _empty = transcript_of(rt.alloc(), b"end\n", 0)?;
     Ok(())
 }

@@ -35,12 +35,6 @@ pub fn has_faults(alloc: Global, head: &[u8], rows: usize, table: &[u8]) -> Resu
     have_faults(alloc, Reader::Script, around, rows, table)
 }
 
-/// The text of the script that is read.
-pub fn written(alloc: Global, text: &[u8]) -> Result<Vec<u8>, Fail> {
-    let script = script_of(read_script(alloc, text))?;
-    Ok(write_script(alloc, &script)?)
-}
-
 // The text of the script with which the text begins, of this length.
 fn written_front(alloc: Global, text: &[u8], wanted: usize) -> Result<Vec<u8>, Fail> {
     let (script, length) = read_front(alloc, text).ok().ok_or("refused")?;
