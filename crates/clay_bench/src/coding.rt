@@ -3,7 +3,7 @@
 ghost use Rattle.std.specs.Prelude.{◌≡◌, ◌*◌, length};
 ghost use Rattle.clay_grid.specs.Shape.{chunk_length, stripe_length};
 
-use crate::least::Least;
+use crate::least::{BothLeast, Least};
 use crate::words::number_at;
 use clay_grid::Geometry;
 use clay_lanes::{LaneCoder, Prepared, parity_into};
@@ -127,38 +127,7 @@ fn write_prepared(
     Ok(())
 }
 
-// The least times of a round by the plain call, and by a code that is prepared.
-#[derive(Clone, Copy)]
-struct Both {
-    plain: Least,
-    prepared: Least,
-}
-
-// Times a round of each.
-fn time_round(
-    rt: &impl Clock,
-    alloc: Global,
-    prepared: &Prepared,
-    stripe: &[u8],
-    chunks: &mut [u8],
-    times: u64,
-    least: Both,
-) -> anyhow::Result<Both>
-    requires stripe { length stripe.now ≡ stripe_length prepared.now }
-    requires chunks { length chunks.old ≡ prepared.now.parity_count * chunk_length prepared.now }
-{
-    let begun = rt.monotonic()?;
-    write_plain(alloc, prepared.geometry(), stripe, chunks, times)?;
-    let between = rt.monotonic()?;
-    write_prepared(alloc, prepared, stripe, chunks, times)?;
-    let ended = rt.monotonic()?;
-    let mut least = least;
-    least.plain.note(between.saturating_sub(begun));
-    least.prepared.note(ended.saturating_sub(between));
-    Ok(least)
-}
-
-// Times the rounds, one of each in turn.
+// Times rounds of a plain writing and of one that is prepared.
 fn time_rounds(
     rt: &impl Clock,
     alloc: Global,
@@ -166,16 +135,19 @@ fn time_rounds(
     stripe: &[u8],
     chunks: &mut [u8],
     times: u64,
-) -> anyhow::Result<Both>
+) -> anyhow::Result<BothLeast>
     requires stripe { length stripe.now ≡ stripe_length prepared.now }
     requires chunks { length chunks.old ≡ prepared.now.parity_count * chunk_length prepared.now }
 {
-    let mut least = Both {
-        plain: Least::new(),
-        prepared: Least::new(),
-    };
+    let geometry = prepared.geometry();
+    let mut least = BothLeast::new();
     for _round in 0..ROUNDS {
-        least = time_round(rt, alloc, prepared, stripe, chunks, times, least)?;
+        let begun = rt.monotonic()?;
+        write_plain(alloc, geometry, stripe, chunks, times)?;
+        let between = rt.monotonic()?;
+        write_prepared(alloc, prepared, stripe, chunks, times)?;
+        let ended = rt.monotonic()?;
+        least.note(between.saturating_sub(begun), ended.saturating_sub(between));
     }
     Ok(least)
 }
@@ -185,7 +157,7 @@ fn time_stripe(
     alloc: Global,
     prepared: &Prepared,
     stripe: &[u8],
-) -> anyhow::Result<Both>
+) -> anyhow::Result<BothLeast>
     requires stripe { length stripe.now ≡ stripe_length prepared.now }
 {
     let geometry = prepared.geometry();
@@ -194,7 +166,7 @@ fn time_stripe(
     time_rounds(rt, alloc, prepared, stripe, &mut chunks, times)
 }
 
-fn time_code(rt: &impl Clock, alloc: Global, prepared: &Prepared) -> anyhow::Result<Both> {
+fn time_code(rt: &impl Clock, alloc: Global, prepared: &Prepared) -> anyhow::Result<BothLeast> {
     let stripe = vec![in alloc; 0x5au8; prepared.geometry().stripe_len() as usize]?;
     time_stripe(rt, alloc, prepared, &stripe)
 }
@@ -206,8 +178,5 @@ pub fn time_prepared<R: Clock + Print>(
     words: &[String],
 ) -> anyhow::Result<()> {
     let geometry = Geometry::new(8, 4, number_at(words, 0)?)?;
-    let least = time_code(rt, alloc, &Prepared::new(alloc, geometry)?)?;
-    let (plain, prepared) = (least.plain.nanoseconds(), least.prepared.nanoseconds());
-    println!(rt; "{plain} {prepared}")?;
-    Ok(())
+    time_code(rt, alloc, &Prepared::new(alloc, geometry)?)?.tell(rt)
 }

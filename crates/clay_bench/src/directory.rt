@@ -1,6 +1,6 @@
 //! Steps at one directory.
 
-use crate::steps::{Kind, prepare, work};
+use crate::steps::{Measured, prepare, work};
 use crate::words::number_at;
 use anyhow::bail;
 use clay_grid::Geometry;
@@ -13,12 +13,12 @@ fn tell_steps(
     rt: &impl Print,
     alloc: Global,
     store: &mut Store<'_>,
-    kind: Kind,
+    measured: Measured,
     size: u32,
     steps: u32,
 ) -> anyhow::Result<()> {
-    prepare(alloc, store, kind, size)?;
-    let swept = work(alloc, store, kind, size, steps)?;
+    prepare(alloc, store, measured, size)?;
+    let swept = work(alloc, store, measured, size, steps)?;
     let directory = store.directory();
     let objects = directory.objects();
     let points = directory.points();
@@ -30,14 +30,14 @@ fn tell_steps(
 fn tell_anew(
     rt: &impl Print,
     alloc: Global,
-    kind: Kind,
+    measured: Measured,
     size: u32,
     steps: u32,
 ) -> anyhow::Result<()> {
     let geometry = Geometry::new(2, 2, 1)?;
     let (book, sealer) = Book::free(alloc, geometry)?;
     let mut store = Store::open(alloc, &book, sealer, u32::MAX)?;
-    let told = tell_steps(rt, alloc, &mut store, kind, size, steps);
+    let told = tell_steps(rt, alloc, &mut store, measured, size, steps);
     store.leave();
     told
 }
@@ -46,10 +46,16 @@ fn tell_anew(
 /// steps are made.
 pub fn make_steps(rt: &impl Print, alloc: Global, words: &[String]) -> anyhow::Result<()> {
     for three in words.chunks(3) {
-        let Some(kind) = Kind::named(three) else {
+        let Some(measured) = Measured::named(three) else {
             bail!("there is no such kind of step");
         };
-        tell_anew(rt, alloc, kind, number_at(three, 1)?, number_at(three, 2)?)?;
+        tell_anew(
+            rt,
+            alloc,
+            measured,
+            number_at(three, 1)?,
+            number_at(three, 2)?,
+        )?;
     }
     Ok(())
 }

@@ -20,3 +20,31 @@ impl Least {
         self.0
     }
 }
+
+/// The least times of two ways to do the same.
+#[derive(Clone, Copy)]
+pub struct BothLeast {
+    first: Least,
+    second: Least,
+}
+
+impl BothLeast {
+    pub fn new() -> BothLeast {
+        BothLeast {
+            first: Least::new(),
+            second: Least::new(),
+        }
+    }
+
+    pub fn note(&mut self, first: Duration, second: Duration) {
+        self.first.note(first);
+        self.second.note(second);
+    }
+
+    /// Prints both, in nanoseconds.
+    pub fn tell(self, rt: &impl Print) -> anyhow::Result<()> {
+        let (first, second) = (self.first.nanoseconds(), self.second.nanoseconds());
+        println!(rt; "{first} {second}")?;
+        Ok(())
+    }
+}

@@ -64,22 +64,53 @@ fn copy(alloc: Global, geometry: Geometry, chunk: &SealedChunk) -> Result<Sealed
     Ok(SealedChunk::new(geometry, stamp, chunk.server(), bytes))
 }
 
-fn prepare_one(server: &mut Server, chunk: SealedChunk) -> Result<(), AllocError>
+// Takes a chunk of its own.
+fn take(server: &mut Server, call: ServerCall, chunk: SealedChunk) -> Result<(), AllocError>
     requires { MayCome server.old chunk }
     ensures number { server.new.number ≡ server.old.number }
     ensures book { server.new.book ≡ server.old.book }
 {
-    let _ = server.prepare(chunk)?;
+    if let ServerCall::Prepare = call {
+        let _ = server.prepare(chunk)?;
+        return Ok(());
+    }
+    let _ = server.install(chunk)?;
     Ok(())
 }
 
-fn install_one(server: &mut Server, chunk: SealedChunk) -> Result<(), AllocError>
-    requires { MayCome server.old chunk }
+// How many bytes came.
+fn fetch(server: &mut Server, version: Version, layers: &[u32]) -> Result<u64, AllocError>
+    requires eight { layer_count server.old.book.geometry ≡ 8 }
+    requires layers { All (λ layer. layer < 8) layers.now }
     ensures number { server.new.number ≡ server.old.number }
     ensures book { server.new.book ≡ server.old.book }
 {
-    let _ = server.install(chunk)?;
-    Ok(())
+    match server.fetch(version, layers)? {
+        Fetched::Part(part) => Ok(part.bytes().len() as u64),
+        Fetched::Missing { found: _ } => Ok(0),
+    }
+}
+
+// A call for one version that takes no chunk.
+fn ask(server: &mut Server, call: ServerCall, version: Version) -> Result<u64, AllocError>
+    requires { layer_count server.old.book.geometry ≡ 8 }
+    ensures number { server.new.number ≡ server.old.number }
+    ensures book { server.new.book ≡ server.old.book }
+{
+    match call {
+        ServerCall::Has => Ok(u64::from(server.has(version) == Presence::Here)),
+        ServerCall::FetchOne => fetch(server, version, &ONE),
+        ServerCall::FetchHalf => fetch(server, version, &HALF),
+        ServerCall::Settle => {
+            server.settle(version);
+            Ok(0)
+        }
+        ServerCall::Discard => {
+            server.discard(version);
+            Ok(0)
+        }
+        ServerCall::Prepare | ServerCall::Install | ServerCall::Wipe => Ok(0),
+    }
 }
 
 impl<'a> Rack<'a> {
@@ -127,69 +158,27 @@ impl<'a> Rack<'a> {
     /// by a fetch.
     pub fn make(&mut self, call: ServerCall) -> Result<u64, AllocError> {
         match call {
-            ServerCall::Prepare => self.prepare(),
-            ServerCall::Has => Ok(self.has()),
-            ServerCall::Settle => Ok(self.settle()),
-            ServerCall::FetchOne => self.fetch(&ONE),
-            ServerCall::FetchHalf => self.fetch(&HALF),
-            ServerCall::Discard => Ok(self.discard()),
-            ServerCall::Install => self.install(),
+            ServerCall::Prepare | ServerCall::Install => self.take_all(call),
             ServerCall::Wipe => Ok(self.wipe()),
+            _ => self.ask_all(call),
         }
     }
 
-    fn prepare(&mut self) -> Result<u64, AllocError> {
+    fn take_all(&mut self, call: ServerCall) -> Result<u64, AllocError> {
         for _version in 0..VERSIONS {
             if let Some(chunk) = self.next() {
-                prepare_one(&mut self.server, chunk)?;
+                take(&mut self.server, call, chunk)?;
             }
         }
         Ok(0)
     }
 
-    fn install(&mut self) -> Result<u64, AllocError> {
-        for _version in 0..VERSIONS {
-            if let Some(chunk) = self.next() {
-                install_one(&mut self.server, chunk)?;
-            }
-        }
-        Ok(0)
-    }
-
-    fn settle(&mut self) -> u64 {
-        for version in 0..VERSIONS {
-            self.server.settle(Version(version));
-        }
-        0
-    }
-
-    fn has(&self) -> u64 {
-        let mut held = 0u64;
-        for version in 0..VERSIONS {
-            if self.server.has(Version(version)) == Presence::Here {
-                held = held.saturating_add(1);
-            }
-        }
-        held
-    }
-
-    fn fetch(&mut self, layers: &[u32]) -> Result<u64, AllocError>
-        requires { All (λ layer. layer < 8) layers.now }
-    {
+    fn ask_all(&mut self, call: ServerCall) -> Result<u64, AllocError> {
         let mut came = 0u64;
         for version in 0..VERSIONS {
-            if let Fetched::Part(part) = self.server.fetch(Version(version), layers)? {
-                came = came.saturating_add(part.bytes().len() as u64);
-            }
+            came = came.saturating_add(ask(&mut self.server, call, Version(version))?);
         }
         Ok(came)
-    }
-
-    fn discard(&mut self) -> u64 {
-        for version in 0..VERSIONS {
-            self.server.discard(Version(version));
-        }
-        0
     }
 
     fn wipe(&mut self) -> u64 {

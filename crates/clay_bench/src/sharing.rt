@@ -5,7 +5,7 @@ ghost use Rattle.clay_grid.specs.Shape.{chunk_count, chunk_length};
 ghost use Rattle.clay_model.specs.Left.{AreLeft};
 ghost use Rattle.clay_model.specs.RepairParts.{AreParts};
 
-use crate::least::Least;
+use crate::least::BothLeast;
 use crate::words::number_at;
 use anyhow::bail;
 use clay_grid::Geometry;
@@ -55,33 +55,6 @@ fn is_missing(g: Geometry, loss: Loss, chunk: u32) -> bool {
     }
 }
 
-/// The least times in one thread and in several.
-#[derive(Clone, Copy)]
-struct Sides {
-    one: Least,
-    several: Least,
-}
-
-impl Sides {
-    fn new() -> Sides {
-        Sides {
-            one: Least::new(),
-            several: Least::new(),
-        }
-    }
-
-    fn note(&mut self, one: Duration, several: Duration) {
-        self.one.note(one);
-        self.several.note(several);
-    }
-}
-
-fn tell(rt: &impl Print, sides: Sides) -> anyhow::Result<()> {
-    let (one, several) = (sides.one.nanoseconds(), sides.several.nanoseconds());
-    println!(rt; "{one} {several}")?;
-    Ok(())
-}
-
 // Some bytes, unless they are missing.
 fn part(alloc: Global, len: usize, missing: bool) -> Result<Option<Vec<u8>>, AllocError>
     ensures none { IfOk result (λ part. is_none part ≡ missing) }
@@ -127,15 +100,15 @@ fn time_recoveries<R: Threads + Sync + Clock>(
     g: Geometry,
     have: &[Option<Vec<u8>>],
     rounds: u32,
-) -> anyhow::Result<Sides>
+) -> anyhow::Result<BothLeast>
     requires { AreLeft g have.now }
 {
-    let mut sides = Sides::new();
+    let mut least = BothLeast::new();
     for _round in 0..rounds {
         let one = recovery(rt, alloc, &LaneCoder, g, have)?;
-        sides.note(one, recovery(rt, alloc, &ParCoder, g, have)?);
+        least.note(one, recovery(rt, alloc, &ParCoder, g, have)?);
     }
-    Ok(sides)
+    Ok(least)
 }
 
 // The same where no more chunks are missing than can be recovered.
@@ -145,7 +118,7 @@ fn time_left<R: Threads + Sync + Clock>(
     g: Geometry,
     have: &[Option<Vec<u8>>],
     rounds: u32,
-) -> anyhow::Result<Sides>
+) -> anyhow::Result<BothLeast>
     requires count { length have.now ≡ chunk_count g }
     requires lengths { All (λ part. IfSome part (λ bytes. length bytes.items ≡ chunk_length g)) have.now }
 {
@@ -161,7 +134,7 @@ fn time_loss<R: Threads + Sync + Clock>(
     g: Geometry,
     loss: Loss,
     rounds: u32,
-) -> anyhow::Result<Sides> {
+) -> anyhow::Result<BothLeast> {
     let have = left_of(alloc, g, loss)?;
     time_left(rt, alloc, g, &have, rounds)
 }
@@ -184,7 +157,7 @@ pub fn time_recovering<R: Threads + Sync + Clock + Print>(
         bail!("there is no such loss");
     };
     let g = geometry_at(words, 0)?;
-    tell(rt, time_loss(rt, alloc, g, loss, number_at(words, 3)?)?)
+    time_loss(rt, alloc, g, loss, number_at(words, 3)?)?.tell(rt)
 }
 
 // What a repair of the first chunk reads of the others.
@@ -221,15 +194,15 @@ fn time_parts<R: Threads + Sync + Clock>(
     g: Geometry,
     parts: &[Option<Vec<u8>>],
     rounds: u32,
-) -> anyhow::Result<Sides>
+) -> anyhow::Result<BothLeast>
     requires { AreParts g 0 parts.now }
 {
-    let mut sides = Sides::new();
+    let mut least = BothLeast::new();
     for _round in 0..rounds {
         let one = rebuilding(rt, alloc, &LaneCoder, g, parts)?;
-        sides.note(one, rebuilding(rt, alloc, &ParCoder, g, parts)?);
+        least.note(one, rebuilding(rt, alloc, &ParCoder, g, parts)?);
     }
-    Ok(sides)
+    Ok(least)
 }
 
 fn time_geometry<R: Threads + Sync + Clock>(
@@ -237,7 +210,7 @@ fn time_geometry<R: Threads + Sync + Clock>(
     alloc: Global,
     g: Geometry,
     rounds: u32,
-) -> anyhow::Result<Sides> {
+) -> anyhow::Result<BothLeast> {
     let parts = parts_of(alloc, g)?;
     time_parts(rt, alloc, g, &parts, rounds)
 }
@@ -249,5 +222,5 @@ pub fn time_rebuilding<R: Threads + Sync + Clock + Print>(
     words: &[String],
 ) -> anyhow::Result<()> {
     let g = geometry_at(words, 0)?;
-    tell(rt, time_geometry(rt, alloc, g, number_at(words, 3)?)?)
+    time_geometry(rt, alloc, g, number_at(words, 3)?)?.tell(rt)
 }

@@ -9,7 +9,7 @@ use store_map::Call;
 
 /// What is made many times.
 #[derive(Clone, Copy)]
-pub enum Kind {
+pub enum Measured {
     /// A write over the middle stripe of an object.
     Write,
     /// A read of it.
@@ -23,16 +23,16 @@ pub enum Kind {
     Stat,
 }
 
-impl Kind {
+impl Measured {
     /// That which the first word names.
-    pub fn named(words: &[String]) -> Option<Kind> {
+    pub fn named(words: &[String]) -> Option<Measured> {
         match words.first()?.as_str() {
-            "write" => Some(Kind::Write),
-            "read" => Some(Kind::Read),
-            "append" => Some(Kind::Append),
-            "put" => Some(Kind::Put),
-            "renew" => Some(Kind::Renew),
-            "stat" => Some(Kind::Stat),
+            "write" => Some(Measured::Write),
+            "read" => Some(Measured::Read),
+            "append" => Some(Measured::Append),
+            "put" => Some(Measured::Put),
+            "renew" => Some(Measured::Renew),
+            "stat" => Some(Measured::Stat),
             _ => None,
         }
     }
@@ -40,7 +40,7 @@ impl Kind {
 
 fn step(store: &mut Store<'_>, step: Step<'_>) -> anyhow::Result<()> {
     match store.first(step) {
-        Ok(_answer) => Ok(()),
+        Ok(_made) => Ok(()),
         Err(refusal) => bail!("a step isn't made: {refusal:?}"),
     }
 }
@@ -119,20 +119,25 @@ fn renew(alloc: Global, store: &mut Store<'_>, objects: u32, steps: u32) -> anyh
 }
 
 // The call that is repeated, of an object of so many stripes.
-fn repeated(alloc: Global, kind: Kind, stripes: u32) -> anyhow::Result<Call> {
-    match kind {
-        Kind::Write => write(alloc, 0, stripes / 2),
-        Kind::Read => read(alloc, 0, stripes / 2),
-        Kind::Stat => stat(alloc, 0),
+fn repeated(alloc: Global, measured: Measured, stripes: u32) -> anyhow::Result<Call> {
+    match measured {
+        Measured::Write => write(alloc, 0, stripes / 2),
+        Measured::Read => read(alloc, 0, stripes / 2),
+        Measured::Stat => stat(alloc, 0),
         _ => put(alloc, 0, stripes),
     }
 }
 
 /// Makes a directory of this size: an object's stripes, objects or points.
-pub fn prepare(alloc: Global, store: &mut Store<'_>, kind: Kind, size: u32) -> anyhow::Result<u64> {
-    match kind {
-        Kind::Renew => put_all(alloc, store, size),
-        Kind::Stat => repeat_new(store, stat(alloc, 0)?, size),
+pub fn prepare(
+    alloc: Global,
+    store: &mut Store<'_>,
+    measured: Measured,
+    size: u32,
+) -> anyhow::Result<u64> {
+    match measured {
+        Measured::Renew => put_all(alloc, store, size),
+        Measured::Stat => repeat_new(store, stat(alloc, 0)?, size),
         _ => repeat_new(store, put(alloc, 0, size)?, 1),
     }
 }
@@ -141,13 +146,13 @@ pub fn prepare(alloc: Global, store: &mut Store<'_>, kind: Kind, size: u32) -> a
 pub fn work(
     alloc: Global,
     store: &mut Store<'_>,
-    kind: Kind,
+    measured: Measured,
     size: u32,
     steps: u32,
 ) -> anyhow::Result<u64> {
-    match kind {
-        Kind::Append => append(alloc, store, size, steps),
-        Kind::Renew => renew(alloc, store, size, steps),
-        _ => repeat_new(store, repeated(alloc, kind, size)?, steps),
+    match measured {
+        Measured::Append => append(alloc, store, size, steps),
+        Measured::Renew => renew(alloc, store, size, steps),
+        _ => repeat_new(store, repeated(alloc, measured, size)?, steps),
     }
 }
