@@ -1,11 +1,12 @@
 //! Codewords recovered by the fast coder from what is left of them, and chunks that are of none.
-ghost use Rattle.std.specs.Prelude.{◌≡◌, ◌≤◌, length, IfOk, IfSome, count_by, is_none};
+ghost use Rattle.std.specs.Prelude.{◌≡◌, length, IfOk, IfSome};
 ghost use Rattle.clay_grid.specs.Shape.{chunk_count, chunk_length};
 ghost use Rattle.clay_model.specs.Left.{AreLong};
 
-use crate::encoding::{CODES, WIDTHS, expect_bytes, expect_chunks, word_of};
+use crate::encoding::{CODES, expect_chunks, geometries, word_of};
+use crate::{expect_bytes, expect_same};
 use clay_grid::Geometry;
-use clay_lanes::{decode, decode_checked, missing, missing_into};
+use clay_lanes::{decode, decode_checked, missing, missing_count, missing_into};
 use clay_model::{CheckedFault, DecodeFault};
 use std::alloc::{AllocError, Global};
 use std::process::Abort;
@@ -42,10 +43,11 @@ pub fn left_of(
     Ok(have)
 }
 
-pub fn gone_count(have: &[Option<Vec<u8>>]) -> usize
-    ensures { result ≡ count_by is_none have.now }
-{
-    have.iter().filter(|chunk| chunk.is_none()).count()
+// The bytes are those that were there before.
+fn expect_untouched(rt: &impl Abort, bytes: &[u8]) {
+    for byte in bytes {
+        expect_same(rt, *byte, 0xa5);
+    }
 }
 
 /// The missing chunks stand in their places, and other bytes in those of the others.
@@ -63,7 +65,7 @@ pub fn expect_places(
         if have[c].is_none() {
             expect_bytes(rt, piece, &word[c]);
         } else {
-            assert!(rt; piece.iter().all(|byte| *byte == 0xa5));
+            expect_untouched(rt, piece);
         }
     }
 }
@@ -91,25 +93,29 @@ fn check_refused(rt: &impl Abort, alloc: Global, g: Geometry, have: &[Option<Vec
     requires count { length have.now ≡ chunk_count g }
     requires lengths { AreLong (chunk_length g) have.now }
 {
-    assert!(rt; missing(alloc, g, have).err() == Some(DecodeFault::TooFew));
-    assert!(rt; decode(alloc, g, have).err() == Some(DecodeFault::TooFew));
-    assert!(rt; decode_checked(alloc, g, have).err() == Some(CheckedFault::TooFew));
+    let refused = missing(alloc, g, have).err();
+    expect_same(rt, refused, Some(DecodeFault::TooFew));
+    let refused = decode(alloc, g, have).err();
+    expect_same(rt, refused, Some(DecodeFault::TooFew));
+    let refused = decode_checked(alloc, g, have).err();
+    expect_same(rt, refused, Some(CheckedFault::TooFew));
 }
 
-// The chunks of the codeword come back.
+// The chunks of the codeword come back, and the missing ones alone.
 fn check_recovered(
     rt: &impl Abort,
     alloc: Global,
     g: Geometry,
     have: &[Option<Vec<u8>>],
     word: &[Vec<u8>],
+    lost: &[Vec<u8>],
 ) -> Result<(), Fail>
     requires count { length have.now ≡ chunk_count g }
     requires lengths { AreLong (chunk_length g) have.now }
-    requires few { count_by is_none have.now ≤ g.parity_count }
 {
     expect_chunks(rt, &decode(alloc, g, have)?, word);
     expect_chunks(rt, &decode_checked(alloc, g, have)?, word);
+    expect_chunks(rt, &missing(alloc, g, have)?, lost);
     Ok(())
 }
 
@@ -130,21 +136,6 @@ fn lost_of(
     Ok(lost)
 }
 
-// The missing chunks come back, alone.
-fn check_missing(
-    rt: &impl Abort,
-    alloc: Global,
-    g: Geometry,
-    have: &[Option<Vec<u8>>],
-    lost: &[Vec<u8>],
-) -> Result<(), Fail>
-    requires count { length have.now ≡ chunk_count g }
-    requires lengths { AreLong (chunk_length g) have.now }
-{
-    expect_chunks(rt, &missing(alloc, g, have)?, lost);
-    Ok(())
-}
-
 // Recovers the chunks of the bits of `gone`.
 fn check_loss(
     rt: &impl Abort,
@@ -154,13 +145,13 @@ fn check_loss(
     gone: u32,
 ) -> Result<(), Fail> {
     let have = left_of(rt, alloc, g, word, gone)?;
-    if gone_count(&have) > g.m() as usize {
+    if missing_count(&have) > g.m() as usize {
         check_refused(rt, alloc, g, &have);
         return Ok(());
     }
-    check_recovered(rt, alloc, g, &have, word)?;
     check_missing_into(rt, alloc, g, &have, word)?;
-    check_missing(rt, alloc, g, &have, &lost_of(rt, alloc, word, gone)?)
+    let lost = lost_of(rt, alloc, word, gone)?;
+    check_recovered(rt, alloc, g, &have, word, &lost)
 }
 
 // Loses no chunk, the last data chunk, the first parity chunk, as many as there are parity chunks (the
@@ -178,65 +169,38 @@ fn check_word(rt: &impl Abort, alloc: Global, g: Geometry, word: &[Vec<u8>]) -> 
 }
 
 fn check_losses(rt: &impl Abort, alloc: Global, g: Geometry) -> Result<(), Fail> {
-    check_word(rt, alloc, g, &word_of(rt, alloc, g)?)
+    check_word(rt, alloc, g, &word_of(alloc, g)?)
 }
 
 #[test]
 fn codes_recover_alike(rt: HostRuntime) -> Result<(), Fail> {
-    for (k, m) in CODES {
-        for w in WIDTHS {
-            check_losses(&rt, rt.alloc(), Geometry::new(k, m, w)?)?;
-        }
+    for g in geometries(rt.alloc())?.iter() {
+        check_losses(&rt, rt.alloc(), *g)?;
     }
     Ok(())
 }
 
-// The chunks of some stripe, with a bit of one of them changed.
-fn changed_word(
-    rt: &impl Abort,
-    alloc: Global,
-    g: Geometry,
-    changed: usize,
-) -> Result<Vec<Vec<u8>>, Fail> {
-    let mut word = word_of(rt, alloc, g)?;
+// Changes a bit of one of the chunks of some stripe, and loses the last one: what is left is more than makes a codeword, and of none.
+fn check_change(rt: &impl Abort, alloc: Global, g: Geometry, changed: usize) -> Result<(), Fail> {
+    let mut word = word_of(alloc, g)?;
+    assert!(rt; g.n() < 32);
     assert!(rt; changed < word.len());
     let chunk = &mut word[changed];
     assert!(rt; !chunk.is_empty());
     chunk[0] ^= 1;
-    Ok(word)
-}
-
-// Loses the last chunk: what is left is more than makes a codeword.
-fn check_change(
-    rt: &impl Abort,
-    alloc: Global,
-    g: Geometry,
-    changed: &[Vec<u8>],
-) -> Result<(), Fail> {
-    assert!(rt; g.n() < 32);
-    let have = left_of(rt, alloc, g, changed, 1 << (g.n() - 1))?;
-    assert!(rt; decode_checked(alloc, g, &have).err() == Some(CheckedFault::Disagree));
+    let have = left_of(rt, alloc, g, &word, 1 << (g.n() - 1))?;
+    let refused = decode_checked(alloc, g, &have).err();
+    expect_same(rt, refused, Some(CheckedFault::Disagree));
     Ok(())
 }
 
-// Changes a data chunk, and a parity chunk.
-fn check_changes(rt: &impl Abort, alloc: Global, g: Geometry) -> Result<(), Fail> {
-    check_change(rt, alloc, g, &changed_word(rt, alloc, g, 0)?)?;
-    check_change(rt, alloc, g, &changed_word(rt, alloc, g, g.k() as usize)?)
-}
-
+// A data chunk, and a parity chunk.
 #[test]
 fn changed_chunks_disagree(rt: HostRuntime) -> Result<(), Fail> {
     for (k, m) in CODES {
-        check_changes(&rt, rt.alloc(), Geometry::new(k, m, 3)?)?;
-    }
-    Ok(())
-}
-
-#[test]
-fn blocks_are_recovered(rt: HostRuntime) -> Result<(), Fail> {
-    for w in [1000, 4095, 4096, 4097, 9000] {
-        check_losses(&rt, rt.alloc(), Geometry::new(3, 2, w)?)?;
+        let g = Geometry::new(k, m, 3)?;
+        check_change(&rt, rt.alloc(), g, 0)?;
+        check_change(&rt, rt.alloc(), g, k as usize)?;
     }
     Ok(())
 }

@@ -1,5 +1,5 @@
 //! Columns added in column form, beside sums by `add_scaled`, and which codes have such columns.
-use crate::encoding::expect_bytes;
+use crate::{expect_bytes, expect_same};
 use clay_field::add_scaled;
 use clay_grid::Geometry;
 use clay_kernels::Products;
@@ -17,30 +17,31 @@ struct Terms<'a> {
     rows: &'a [u8],
 }
 
-// The sum with these multiples of these rows.
-fn added(
+// A row is the sum with these multiples.
+fn expect_row(
     rt: &impl Abort,
     alloc: Global,
+    row: &[u8],
     terms: Terms<'_>,
     factors: &[(u8, usize)],
-) -> Result<Vec<u8>, Fail> {
+) -> Result<(), Fail> {
     let len = terms.len;
+    assert!(rt; len <= 200 && terms.rows.len() == 4 * len);
     let mut sum = vec![in alloc; terms.value; len]?;
-    for (factor, row) in factors {
-        assert!(rt; len <= 200 && *row < 4 && terms.rows.len() == 4 * len);
+    for (factor, term) in factors {
+        assert!(rt; *term < 4);
         assert!(rt; sum.len() == len);
-        add_scaled(&mut sum, *factor, &terms.rows[*row * len..(*row + 1) * len]);
+        add_scaled(
+            &mut sum,
+            *factor,
+            &terms.rows[*term * len..(*term + 1) * len],
+        );
     }
-    Ok(sum)
+    expect_bytes(rt, row, &sum);
+    Ok(())
 }
 
-fn expect_row(rt: &impl Abort, rows: &[u8], row: usize, expected: &[u8]) {
-    let len = expected.len();
-    assert!(rt; len <= 200 && row < 4 && rows.len() == 4 * len);
-    expect_bytes(rt, &rows[row * len..(row + 1) * len], expected);
-}
-
-// Each row is the sum with these multiples. Nothing is owned here, so each sum that may fail costs little to prove.
+// Each row is the sum with these multiples.
 fn expect_sums(
     rt: &impl Abort,
     alloc: Global,
@@ -48,10 +49,12 @@ fn expect_sums(
     terms: Terms<'_>,
     factors: [&[(u8, usize)]; 4],
 ) -> Result<(), Fail> {
-    for (row, factors) in factors.iter().enumerate() {
-        expect_row(rt, rows, row, &added(rt, alloc, terms, factors)?);
-    }
-    Ok(())
+    let len = terms.len;
+    assert!(rt; len <= 200 && rows.len() == 4 * len);
+    expect_row(rt, alloc, &rows[..len], terms, factors[0])?;
+    expect_row(rt, alloc, &rows[len..2 * len], terms, factors[1])?;
+    expect_row(rt, alloc, &rows[2 * len..3 * len], terms, factors[2])?;
+    expect_row(rt, alloc, &rows[3 * len..], terms, factors[3])
 }
 
 // Four rows of `len` bytes.
@@ -154,9 +157,9 @@ fn column_count(alloc: Global, k: u32, m: u32) -> Result<usize, Fail> {
 
 #[test]
 fn four_parity_nodes_are_made_by_columns(rt: HostRuntime) -> Result<(), Fail> {
-    assert!(&rt; column_count(rt.alloc(), 8, 4)? == 2);
-    assert!(&rt; column_count(rt.alloc(), 10, 4)? == 3);
-    assert!(&rt; column_count(rt.alloc(), 16, 4)? == 4);
-    assert!(&rt; column_count(rt.alloc(), 4, 2)? == 0);
+    expect_same(&rt, column_count(rt.alloc(), 8, 4)?, 2);
+    expect_same(&rt, column_count(rt.alloc(), 10, 4)?, 3);
+    expect_same(&rt, column_count(rt.alloc(), 16, 4)?, 4);
+    expect_same(&rt, column_count(rt.alloc(), 4, 2)?, 0);
     Ok(())
 }

@@ -1,7 +1,8 @@
 //! Stripes encoded by the fast coder and by the plain one; codes and widths for all these tests.
-ghost use Rattle.std.specs.Prelude.{◌≡◌, length};
+ghost use Rattle.std.specs.Prelude.{◌≡◌, length, IfOk};
 ghost use Rattle.clay_grid.specs.Shape.{stripe_length};
 
+use crate::expect_bytes;
 use clay_grid::Geometry;
 use clay_lanes::{Prepared, encode, parity, parity_into};
 use std::alloc::{AllocError, Global};
@@ -9,7 +10,9 @@ use std::process::Abort;
 use std::test::Fail;
 
 /// Bytes that repeat only after 256 * 251 of them.
-pub fn mixed_bytes(alloc: Global, count: u32) -> Result<Vec<u8>, AllocError> {
+pub fn mixed_bytes(alloc: Global, count: u32) -> Result<Vec<u8>, AllocError>
+    ensures { IfOk result (λ bytes. length bytes.items ≡ count) }
+{
     let mut bytes = Vec::with_capacity(alloc, count as usize)?;
     let mut byte = 1u8;
     for i in 0..count {
@@ -20,15 +23,9 @@ pub fn mixed_bytes(alloc: Global, count: u32) -> Result<Vec<u8>, AllocError> {
 }
 
 /// The chunks of some stripe, by the fast coder.
-pub fn word_of(rt: &impl Abort, alloc: Global, g: Geometry) -> Result<Vec<Vec<u8>>, AllocError> {
+pub fn word_of(alloc: Global, g: Geometry) -> Result<Vec<Vec<u8>>, AllocError> {
     let stripe = mixed_bytes(alloc, g.stripe_len())?;
-    assert!(rt; stripe.len() == g.stripe_len() as usize);
     encode(alloc, g, &stripe)
-}
-
-/// One function compares, and tells both sides where they differ: each `assert_eq` is proved with all that it prints.
-pub fn expect_bytes(rt: &impl Abort, found: &[u8], wanted: &[u8]) {
-    assert_eq!(rt; found, wanted);
 }
 
 pub fn expect_chunks(rt: &impl Abort, chunks: &[Vec<u8>], expected: &[Vec<u8>]) {
@@ -103,7 +100,6 @@ fn check_chunks(
 
 fn check_stripe(rt: &impl Abort, alloc: Global, g: Geometry) -> Result<(), Fail> {
     let stripe = mixed_bytes(alloc, g.stripe_len())?;
-    assert!(rt; stripe.len() == g.stripe_len() as usize);
     let plain = clay_encode::encode(alloc, g, &stripe)?;
     check_chunks(rt, alloc, g, &stripe, &plain)
 }
@@ -123,14 +119,29 @@ pub const CODES: [(u32, u32); 10] = [
 ];
 
 /// Widths around those of a vector of bytes, and a longer one.
-pub const WIDTHS: [u32; 7] = [1, 15, 16, 17, 63, 64, 1000];
+const WIDTHS: [u32; 7] = [1, 15, 16, 17, 63, 64, 1000];
+
+/// Widths around those of one block and of two, and a longer one.
+const BLOCK_WIDTHS: [u32; 5] = [4095, 4096, 4097, 8192, 9000];
+
+/// Each code of each width, and a code of each width around those of blocks.
+pub fn geometries(alloc: Global) -> Result<Vec<Geometry>, Fail> {
+    let mut all = Vec::new(alloc);
+    for (k, m) in CODES {
+        for w in WIDTHS {
+            all.push(Geometry::new(k, m, w)?)?;
+        }
+    }
+    for w in BLOCK_WIDTHS {
+        all.push(Geometry::new(3, 2, w)?)?;
+    }
+    Ok(all)
+}
 
 #[test]
 fn stripes_are_encoded_alike(rt: HostRuntime) -> Result<(), Fail> {
-    for (k, m) in CODES {
-        for w in WIDTHS {
-            check_stripe(&rt, rt.alloc(), Geometry::new(k, m, w)?)?;
-        }
+    for g in geometries(rt.alloc())?.iter() {
+        check_stripe(&rt, rt.alloc(), *g)?;
     }
     Ok(())
 }
@@ -141,12 +152,4 @@ fn columns_of_four_nodes_are_encoded_alike(rt: HostRuntime) -> Result<(), Fail> 
         check_stripe(&rt, rt.alloc(), Geometry::new(4, 4, w)?)?;
     }
     check_stripe(&rt, rt.alloc(), Geometry::new(3, 4, 4099)?)
-}
-
-#[test]
-fn blocks_are_joined(rt: HostRuntime) -> Result<(), Fail> {
-    for w in [4095, 4096, 4097, 8192, 9000] {
-        check_stripe(&rt, rt.alloc(), Geometry::new(3, 2, w)?)?;
-    }
-    Ok(())
 }

@@ -1,42 +1,42 @@
 //! Products added to rows, beside `add_scaled`.
-use crate::encoding::expect_bytes;
+use crate::coupling::some_bytes;
+use crate::expect_bytes;
 use clay_field::add_scaled;
 use clay_kernels::{Products, add_rows};
 use std::alloc::Global;
 use std::process::Abort;
 use std::test::Fail;
 
-fn check_row(
+/// A row is bytes of one value, to which a multiple of other bytes was added.
+pub fn expect_multiple(
     rt: &impl Abort,
     alloc: Global,
+    value: u8,
     factor: u8,
-    src: &[u8],
+    bytes: &[u8],
     row: &[u8],
 ) -> Result<(), Fail> {
-    let mut expected = vec![in alloc; 0x3Cu8; src.len()]?;
-    add_scaled(&mut expected, factor, src);
-    expect_bytes(rt, row, &expected);
+    let mut sum = vec![in alloc; value; bytes.len()]?;
+    add_scaled(&mut sum, factor, bytes);
+    expect_bytes(rt, row, &sum);
     Ok(())
 }
 
 // Adds to rows of `len` bytes the products with the factors, and compares each row with `add_scaled`.
 fn check_rows(rt: &impl Abort, alloc: Global, factors: &[u8], len: usize) -> Result<(), Fail> {
-    let mut src = Vec::with_capacity(alloc, len)?;
-    for i in 0..len {
-        src.push((i % 256) as u8 ^ 0xA5)?;
-    }
-    let mut products = Vec::with_capacity(alloc, factors.len())?;
+    let count = factors.len();
+    assert!(rt; count <= 8 && len <= 200);
+    let src = some_bytes(alloc, len, 0xA5)?;
+    let mut products = Vec::with_capacity(alloc, count)?;
     for factor in factors.iter() {
         products.push(Products::new(*factor))?;
     }
-    let count = factors.len();
-    assert!(rt; count <= 8 && len <= 200);
-    let mut rows = vec![in alloc; 0x3Cu8; count * len]?;
     assert!(rt; products.len() == count);
-    assert!(rt; src.len() == len);
+    let mut rows = vec![in alloc; 0x3Cu8; count * len]?;
     add_rows(&products, &src, &mut rows);
     for (row, factor) in factors.iter().enumerate() {
-        check_row(rt, alloc, *factor, &src, &rows[row * len..(row + 1) * len])?;
+        let added = &rows[row * len..(row + 1) * len];
+        expect_multiple(rt, alloc, 0x3C, *factor, &src, added)?;
     }
     Ok(())
 }

@@ -24,3 +24,19 @@ mod missing_reads;
 mod rebuilding;
 #[cfg(test)]
 mod threads;
+
+#[cfg(test)]
+use std::fmt::Debug;
+#[cfg(test)]
+use std::process::Abort;
+
+// Two functions compare, and tell both sides where they differ: an `assert_eq` is proved with all that it prints, so a test calls one.
+#[cfg(test)]
+fn expect_bytes(rt: &impl Abort, found: &[u8], wanted: &[u8]) {
+    assert_eq!(rt; found, wanted);
+}
+
+#[cfg(test)]
+fn expect_same<T: Copy + Debug + PartialEq>(rt: &impl Abort, found: T, wanted: T) {
+    assert_eq!(rt; found, wanted);
+}

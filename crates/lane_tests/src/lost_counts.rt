@@ -1,6 +1,8 @@
 //! Pieces of some runs. The numbers are those of a planner in C that shares nothing with the library.
+use crate::expect_same;
 use clay_grid::Geometry;
 use lost_layers::{LostFault, LostPiece, LostRun, lost_count, lost_pieces};
+use std::process::Abort;
 use std::test::Fail;
 
 /// k, m, the lost chunk, from, to; how many subchunks are read
@@ -19,8 +21,9 @@ fn counts(rt: HostRuntime) -> Result<(), Fail> {
     for [k, m, lost, from, to, count] in COUNTS {
         let g = Geometry::new(k, m, 1)?;
         let run = LostRun { lost, from, to };
-        assert!(rt; lost_count(g, run)? == count);
-        assert!(rt; lost_pieces(rt.alloc(), g, run)?.len() == count as usize);
+        expect_same(&rt, lost_count(g, run)?, count);
+        let pieces = lost_pieces(rt.alloc(), g, run)?;
+        expect_same(&rt, pieces.len(), count as usize);
     }
     Ok(())
 }
@@ -35,20 +38,24 @@ fn pieces_of_one_layer(rt: HostRuntime) -> Result<(), Fail> {
     };
     let pieces = lost_pieces(rt.alloc(), g, run)?;
     let places = [(0, 1), (0, 3), (3, 1)];
-    assert!(rt; pieces.len() == places.len());
+    expect_same(&rt, pieces.len(), places.len());
     for (piece, (chunk, layer)) in pieces.iter().zip(places) {
-        assert!(rt; *piece == LostPiece { chunk, layer });
+        expect_same(&rt, *piece, LostPiece { chunk, layer });
     }
     Ok(())
+}
+
+// Why a run isn't read of a code with two parity chunks, if it isn't.
+fn expect_end(rt: &impl Abort, g: Geometry, lost: u32, from: u32, to: u32, why: Option<LostFault>) {
+    expect_same(rt, lost_count(g, LostRun { lost, from, to }).err(), why);
 }
 
 #[test]
 fn refusals(rt: HostRuntime) -> Result<(), Fail> {
     let g = Geometry::new(2, 2, 1)?;
-    let refused = |lost, from, to| lost_count(g, LostRun { lost, from, to }).err();
-    assert!(rt; refused(4, 0, 1) == Some(LostFault::NoSuchChunk));
-    assert!(rt; refused(3, 1, 0) == Some(LostFault::NoSuchLayers));
-    assert!(rt; refused(3, 0, 5) == Some(LostFault::NoSuchLayers));
-    assert!(rt; refused(3, 4, 4) == None);
+    expect_end(&rt, g, 4, 0, 1, Some(LostFault::NoSuchChunk));
+    expect_end(&rt, g, 3, 1, 0, Some(LostFault::NoSuchLayers));
+    expect_end(&rt, g, 3, 0, 5, Some(LostFault::NoSuchLayers));
+    expect_end(&rt, g, 3, 4, 4, None);
     Ok(())
 }

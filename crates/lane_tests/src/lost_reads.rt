@@ -1,5 +1,6 @@
 //! Runs of every chunk of some codes, read from the subchunks that they take.
-use crate::encoding::{expect_bytes, mixed_bytes};
+use crate::encoding::mixed_bytes;
+use crate::{expect_bytes, expect_same};
 use clay_encode::encode;
 use clay_grid::Geometry;
 use lost_layers::{LostFault, LostPiece, LostRun, lost_pieces};
@@ -12,9 +13,8 @@ use std::test::Fail;
 const CODES: [(u32, u32); 6] = [(2, 2), (3, 2), (4, 2), (3, 3), (5, 3), (5, 4)];
 
 // The chunks of some stripe, by the plain coder.
-fn word_of(rt: &impl Abort, alloc: Global, g: Geometry) -> Result<Vec<Vec<u8>>, AllocError> {
+fn word_of(alloc: Global, g: Geometry) -> Result<Vec<Vec<u8>>, AllocError> {
     let stripe = mixed_bytes(alloc, g.stripe_len())?;
-    assert!(rt; stripe.len() == g.stripe_len() as usize);
     encode(alloc, g, &stripe)
 }
 
@@ -99,51 +99,79 @@ fn check_chunk(
 }
 
 fn check_code(rt: &impl Abort, alloc: Global, g: Geometry) -> Result<(), Fail> {
-    let word = word_of(rt, alloc, g)?;
+    let word = word_of(alloc, g)?;
     for lost in 0..g.n() {
         check_chunk(rt, alloc, g, &word, lost)?;
     }
     Ok(())
 }
 
+// Of narrow subchunks, and of wide ones.
 #[test]
 fn runs_are_read(rt: HostRuntime) -> Result<(), Fail> {
     for (k, m) in CODES {
         check_code(&rt, rt.alloc(), Geometry::new(k, m, 3)?)?;
     }
-    Ok(())
-}
-
-#[test]
-fn wide_subchunks_are_read(rt: HostRuntime) -> Result<(), Fail> {
     check_code(&rt, rt.alloc(), Geometry::new(2, 2, 67)?)
 }
 
-// Why a run from layer 1 on isn't read.
-fn refusal(
+// Reads a run from layer 1 on, which is refused unless no cause is given.
+fn expect_end(
+    rt: &impl Abort,
     alloc: Global,
+    g: Geometry,
     lost: u32,
     to: u32,
     pieces: &[&[u8]],
-    room: usize,
-) -> Result<Option<ReadFault>, Fail> {
-    let g = Geometry::new(2, 2, 2)?;
-    let mut out = vec![in alloc; 0u8; room]?;
+    out: &mut [u8],
+    why: Option<ReadFault>,
+) {
     let run = LostRun { lost, from: 1, to };
-    Ok(read_lost(alloc, g, run, pieces, &mut out).err())
+    let refused = read_lost(alloc, g, run, pieces, out).err();
+    expect_same(rt, refused, why);
 }
 
 #[test]
 fn refusals(rt: HostRuntime) -> Result<(), Fail> {
-    let alloc = rt.alloc();
+    let (alloc, g) = (rt.alloc(), Geometry::new(2, 2, 2)?);
     let three = [b"ab".as_slice(), b"cd".as_slice(), b"ef".as_slice()];
     let short = [b"ab".as_slice(), b"c".as_slice(), b"ef".as_slice()];
-    assert!(rt; refusal(alloc, 4, 2, &three, 2)? == Some(ReadFault::Run(LostFault::NoSuchChunk)));
-    assert!(rt; refusal(alloc, 1, 5, &three, 2)? == Some(ReadFault::Run(LostFault::NoSuchLayers)));
-    assert!(rt; refusal(alloc, 1, 2, &three[..2], 2)? == Some(ReadFault::PieceCount));
-    assert!(rt; refusal(alloc, 1, 2, &short, 2)? == Some(ReadFault::PieceLength));
-    assert!(rt; refusal(alloc, 1, 2, &three, 3)? == Some(ReadFault::Room));
-    assert!(rt; refusal(alloc, 1, 2, &three, 2)? == None);
-    assert!(rt; refusal(alloc, 1, 1, &three[..0], 0)? == None);
+    let chunk = ReadFault::Run(LostFault::NoSuchChunk);
+    let layers = ReadFault::Run(LostFault::NoSuchLayers);
+    let (mut two, mut room) = ([0; 2], [0; 3]);
+    expect_end(&rt, alloc, g, 4, 2, &three, &mut two, Some(chunk));
+    expect_end(&rt, alloc, g, 1, 5, &three, &mut two, Some(layers));
+    expect_end(
+        &rt,
+        alloc,
+        g,
+        1,
+        2,
+        &three[..2],
+        &mut two,
+        Some(ReadFault::PieceCount),
+    );
+    expect_end(
+        &rt,
+        alloc,
+        g,
+        1,
+        2,
+        &short,
+        &mut two,
+        Some(ReadFault::PieceLength),
+    );
+    expect_end(
+        &rt,
+        alloc,
+        g,
+        1,
+        2,
+        &three,
+        &mut room,
+        Some(ReadFault::Room),
+    );
+    expect_end(&rt, alloc, g, 1, 2, &three, &mut two, None);
+    expect_end(&rt, alloc, g, 1, 1, &[], &mut [], None);
     Ok(())
 }

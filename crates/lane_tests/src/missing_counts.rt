@@ -1,7 +1,9 @@
 //! Pieces without some chunks.
+use crate::expect_same;
 use clay_grid::Geometry;
 use lost_layers::{LostRun, MissingFault, missing_count, missing_pieces};
-use std::alloc::Global;
+use std::alloc::{AllocError, Global};
+use std::process::Abort;
 use std::test::Fail;
 
 /// k, m, the missing chunks by their bits, the lost one, from, to; how many subchunks are read, which is the least that any choice of
@@ -17,7 +19,7 @@ const COUNTS: [[u32; 7]; 7] = [
 ];
 
 /// Marks for so many chunks, of which those with a bit are missing.
-pub fn present(alloc: Global, count: u32, missing: u32) -> Result<Vec<bool>, Fail> {
+pub fn present(alloc: Global, count: u32, missing: u32) -> Result<Vec<bool>, AllocError> {
     let mut marks = Vec::with_capacity(alloc, count as usize)?;
     for bit in 0..count.min(32) {
         marks.push(missing >> bit & 1 == 0)?;
@@ -31,34 +33,56 @@ fn counts(rt: HostRuntime) -> Result<(), Fail> {
         let g = Geometry::new(k, m, 1)?;
         let marks = present(rt.alloc(), g.n(), missing)?;
         let run = LostRun { lost, from, to };
-        assert!(rt; missing_pieces(rt.alloc(), g, run, &marks)?.len() == count as usize);
-        assert!(rt; missing_count(rt.alloc(), g, run, &marks)? == count);
+        let pieces = missing_pieces(rt.alloc(), g, run, &marks)?;
+        expect_same(&rt, pieces.len(), count as usize);
+        let read = missing_count(rt.alloc(), g, run, &marks)?;
+        expect_same(&rt, read, count);
     }
     Ok(())
 }
 
-// Why the first layer isn't read of a code with two parity chunks.
-fn refusal(
+// Lists the pieces of the first layers of a code with two parity chunks, which is refused unless no cause is given.
+fn expect_end(
+    rt: &impl Abort,
     alloc: Global,
+    g: Geometry,
     lost: u32,
     to: u32,
-    count: u32,
-    missing: u32,
-) -> Result<Option<MissingFault>, Fail> {
-    let g = Geometry::new(2, 2, 1)?;
-    let marks = present(alloc, count, missing)?;
+    present: &[bool],
+    why: Option<MissingFault>,
+) {
     let run = LostRun { lost, from: 0, to };
-    Ok(missing_pieces(alloc, g, run, &marks).err())
+    let refused = missing_pieces(alloc, g, run, present).err();
+    expect_same(rt, refused, why);
 }
 
 #[test]
 fn refusals(rt: HostRuntime) -> Result<(), Fail> {
-    let alloc = rt.alloc();
-    assert!(rt; refusal(alloc, 4, 1, 4, 0)? == Some(MissingFault::NoSuchChunk));
-    assert!(rt; refusal(alloc, 3, 5, 4, 0)? == Some(MissingFault::NoSuchLayers));
-    assert!(rt; refusal(alloc, 3, 1, 5, 0)? == Some(MissingFault::MarkCount));
-    assert!(rt; refusal(alloc, 3, 1, 4, 0b0111)? == Some(MissingFault::TooFew));
-    assert!(rt; refusal(alloc, 3, 1, 4, 0b0001)? == None);
-    assert!(rt; refusal(alloc, 3, 0, 4, 0b0011)? == Some(MissingFault::TooFew));
+    let (alloc, g) = (rt.alloc(), Geometry::new(2, 2, 1)?);
+    let all = [true; 5];
+    let without_first = [false, true, true, true];
+    let (two, one) = ([false, false, true, true], [false, false, false, true]);
+    expect_end(
+        &rt,
+        alloc,
+        g,
+        4,
+        1,
+        &all[..4],
+        Some(MissingFault::NoSuchChunk),
+    );
+    expect_end(
+        &rt,
+        alloc,
+        g,
+        3,
+        5,
+        &all[..4],
+        Some(MissingFault::NoSuchLayers),
+    );
+    expect_end(&rt, alloc, g, 3, 1, &all, Some(MissingFault::MarkCount));
+    expect_end(&rt, alloc, g, 3, 1, &one, Some(MissingFault::TooFew));
+    expect_end(&rt, alloc, g, 3, 1, &without_first, None);
+    expect_end(&rt, alloc, g, 3, 0, &two, Some(MissingFault::TooFew));
     Ok(())
 }

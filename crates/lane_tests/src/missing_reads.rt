@@ -2,6 +2,7 @@
 use crate::encoding::word_of;
 use crate::lost_reads::{bytes_of, layers};
 use crate::missing_counts::present;
+use crate::{expect_bytes, expect_same};
 use clay_grid::Geometry;
 use lost_layers::{LostRun, MissingFault, missing_pieces};
 use lost_read::{MissingReadFault, read_missing};
@@ -30,14 +31,14 @@ fn check_run(
     missing: u32,
     run: LostRun,
 ) -> Result<(), Fail> {
-    let word = word_of(rt, alloc, g)?;
+    let word = word_of(alloc, g)?;
     let marks = present(alloc, g.n(), missing)?;
     let pieces = missing_pieces(alloc, g, run, &marks)?;
     let bytes = bytes_of(rt, alloc, g, &word, &pieces)?;
     let wanted = layers(rt, g, &word, run.lost, run.from, run.to);
     let mut out = vec![in alloc; 0xa5u8; wanted.len()]?;
     read_missing(alloc, g, run, &marks, &bytes, &mut out)?;
-    assert_eq!(rt; out.as_slice(), wanted);
+    expect_bytes(rt, &out, wanted);
     Ok(())
 }
 
@@ -50,44 +51,64 @@ fn runs_are_read(rt: HostRuntime) -> Result<(), Fail> {
     Ok(())
 }
 
-// Why the layers below `to` of chunk 3 of a code with two parity chunks, of which the first chunk is missing, aren't read. Layer 0 takes five
-// pieces of two bytes.
-fn refusal(
+// Reads the layers below `to` of chunk 3 of a code with two parity chunks, of which the first chunk is missing. It is refused unless no cause
+// is given. Layer 0 takes five pieces of two bytes.
+fn expect_end(
+    rt: &impl Abort,
     alloc: Global,
+    g: Geometry,
     to: u32,
     pieces: &[&[u8]],
-    room: usize,
-) -> Result<Option<MissingReadFault>, Fail> {
-    let g = Geometry::new(2, 2, 2)?;
-    let marks = present(alloc, 4, 0b0001)?;
-    let mut out = vec![in alloc; 0u8; room]?;
-    let run = LostRun {
-        lost: 3,
-        from: 0,
-        to,
-    };
-    Ok(read_missing(alloc, g, run, &marks, pieces, &mut out).err())
+    out: &mut [u8],
+    why: Option<MissingReadFault>,
+) {
+    let (lost, from) = (3, 0);
+    let present = [false, true, true, true];
+    let run = LostRun { lost, from, to };
+    let refused = read_missing(alloc, g, run, &present, pieces, out).err();
+    expect_same(rt, refused, why);
 }
 
 #[test]
 fn refusals(rt: HostRuntime) -> Result<(), Fail> {
-    let alloc = rt.alloc();
+    let (alloc, g) = (rt.alloc(), Geometry::new(2, 2, 2)?);
     let good = [b"ab".as_slice(); 5];
-    let short = [
-        b"ab".as_slice(),
-        b"c".as_slice(),
-        b"ef".as_slice(),
-        b"gh".as_slice(),
-        b"ij".as_slice(),
-    ];
-    let layers = Some(MissingReadFault::Run(MissingFault::NoSuchLayers));
-    assert!(rt; refusal(alloc, 5, &[], 0)? == layers);
-    assert!(rt; refusal(alloc, 1, &good[1..], 2)? == Some(MissingReadFault::PieceCount));
-    assert!(rt; refusal(alloc, 1, &short, 2)? == Some(MissingReadFault::PieceLength));
-    assert!(rt; refusal(alloc, 1, &good, 3)? == Some(MissingReadFault::Room));
-    assert!(rt; refusal(alloc, 1, &good, 2)? == None);
-    assert!(rt; refusal(alloc, 0, &good, 0)? == Some(MissingReadFault::PieceCount));
-    assert!(rt; refusal(alloc, 0, &[], 1)? == Some(MissingReadFault::Room));
-    assert!(rt; refusal(alloc, 0, &[], 0)? == None);
+    let mut short = good;
+    short[1] = b"c".as_slice();
+    let layers = MissingReadFault::Run(MissingFault::NoSuchLayers);
+    let count = MissingReadFault::PieceCount;
+    let (mut two, mut room) = ([0; 2], [0; 3]);
+    expect_end(&rt, alloc, g, 5, &[], &mut [], Some(layers));
+    expect_end(&rt, alloc, g, 1, &good[1..], &mut two, Some(count));
+    expect_end(
+        &rt,
+        alloc,
+        g,
+        1,
+        &short,
+        &mut two,
+        Some(MissingReadFault::PieceLength),
+    );
+    expect_end(
+        &rt,
+        alloc,
+        g,
+        1,
+        &good,
+        &mut room,
+        Some(MissingReadFault::Room),
+    );
+    expect_end(&rt, alloc, g, 1, &good, &mut two, None);
+    expect_end(&rt, alloc, g, 0, &good, &mut [], Some(count));
+    expect_end(
+        &rt,
+        alloc,
+        g,
+        0,
+        &[],
+        &mut room[..1],
+        Some(MissingReadFault::Room),
+    );
+    expect_end(&rt, alloc, g, 0, &[], &mut [], None);
     Ok(())
 }

@@ -3,7 +3,8 @@ ghost use Rattle.std.specs.Prelude.{◌≡◌, ◌<◌, length, IfOk, IfSome, is
 ghost use Rattle.clay_grid.specs.Shape.{chunk_count};
 ghost use Rattle.clay_model.specs.RepairParts.{AreParts};
 
-use crate::encoding::{CODES, WIDTHS, expect_bytes, word_of};
+use crate::encoding::{geometries, word_of};
+use crate::expect_bytes;
 use clay_grid::Geometry;
 use clay_lanes::LaneCoder;
 use clay_model::Coder;
@@ -84,41 +85,23 @@ pub fn check_rebuild<R: Abort + Threads + Sync, C: Coder>(
     Ok(())
 }
 
-fn check_word<R: Abort + Threads + Sync>(
-    rt: &R,
-    alloc: Global,
-    g: Geometry,
-    word: &[Vec<u8>],
-) -> Result<(), Fail> {
-    for lost in 0..g.n() {
-        check_rebuild(rt, alloc, &LaneCoder, g, word, lost)?;
-    }
-    Ok(())
-}
-
 // Rebuilds each chunk.
 fn check_rebuilds<R: Abort + Threads + Sync>(
     rt: &R,
     alloc: Global,
     g: Geometry,
 ) -> Result<(), Fail> {
-    check_word(rt, alloc, g, &word_of(rt, alloc, g)?)
-}
-
-#[test]
-fn codes_rebuild_alike(rt: HostRuntime) -> Result<(), Fail> {
-    for (k, m) in CODES {
-        for w in WIDTHS {
-            check_rebuilds(&rt, rt.alloc(), Geometry::new(k, m, w)?)?;
-        }
+    let word = word_of(alloc, g)?;
+    for lost in 0..g.n() {
+        check_rebuild(rt, alloc, &LaneCoder, g, &word, lost)?;
     }
     Ok(())
 }
 
 #[test]
-fn blocks_are_rebuilt(rt: HostRuntime) -> Result<(), Fail> {
-    for w in [1000, 4095, 4096, 4097, 9000] {
-        check_rebuilds(&rt, rt.alloc(), Geometry::new(3, 2, w)?)?;
+fn codes_rebuild_alike(rt: HostRuntime) -> Result<(), Fail> {
+    for g in geometries(rt.alloc())?.iter() {
+        check_rebuilds(&rt, rt.alloc(), *g)?;
     }
     Ok(())
 }

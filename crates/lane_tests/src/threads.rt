@@ -2,15 +2,16 @@
 ghost use Rattle.std.specs.Prelude.{◌≡◌, length};
 ghost use Rattle.clay_grid.specs.Shape.{stripe_length};
 
-use crate::coders::{expect_places, gone_count, left_of};
-use crate::encoding::{CODES, WIDTHS, expect_chunks, expect_pieces, mixed_bytes};
+use crate::coders::{expect_places, left_of};
+use crate::coupling::some_bytes;
+use crate::encoding::{expect_chunks, expect_pieces, geometries, mixed_bytes};
 use crate::rebuilding::check_rebuild;
 use clay_grid::Geometry;
-use clay_lanes::LaneCoder;
+use clay_lanes::{LaneCoder, missing_count};
 use clay_model::Coder;
 use clay_par::ParCoder;
 use clay_repair::PlainCoder;
-use std::alloc::{AllocError, Global};
+use std::alloc::Global;
 use std::process::Abort;
 use std::test::Fail;
 use std::thread::Threads;
@@ -85,7 +86,6 @@ fn word_of<R: Abort + Threads + Sync>(
     g: Geometry,
 ) -> Result<Vec<Vec<u8>>, Fail> {
     let stripe = mixed_bytes(alloc, g.stripe_len())?;
-    assert!(rt; stripe.len() == g.stripe_len() as usize);
     encoded(rt, alloc, g, &stripe)
 }
 
@@ -99,7 +99,7 @@ fn check_loss<R: Abort + Threads + Sync, C: Coder>(
     gone: u32,
 ) -> Result<(), Fail> {
     let have = left_of(rt, alloc, g, word, gone)?;
-    assert!(rt; gone_count(&have) <= g.m() as usize);
+    assert!(rt; missing_count(&have) <= g.m() as usize);
     expect_chunks(rt, &coder.recover(rt, alloc, g, &have)?, word);
     Ok(())
 }
@@ -155,30 +155,19 @@ fn check_code<R: Abort + Threads + Sync>(rt: &R, alloc: Global, g: Geometry) -> 
 
 #[test]
 fn coders_agree(rt: HostRuntime) -> Result<(), Fail> {
-    for (k, m) in CODES {
-        for w in WIDTHS {
-            check_code(&rt, rt.alloc(), Geometry::new(k, m, w)?)?;
-        }
+    for g in geometries(rt.alloc())?.iter() {
+        check_code(&rt, rt.alloc(), *g)?;
     }
     Ok(())
 }
 
-// Bytes that count.
-fn counted_bytes(alloc: Global, count: u32) -> Result<Vec<u8>, AllocError> {
-    let mut bytes = Vec::with_capacity(alloc, count as usize)?;
-    for i in 0..count {
-        bytes.push((i % 256) as u8)?;
-    }
-    Ok(bytes)
-}
-
+// Codes bytes that count.
 fn check_counted<R: Abort + Threads + Sync>(
     rt: &R,
     alloc: Global,
     g: Geometry,
 ) -> Result<(), Fail> {
-    let stripe = counted_bytes(alloc, g.stripe_len())?;
-    assert!(rt; stripe.len() == g.stripe_len() as usize);
+    let stripe = some_bytes(alloc, g.stripe_len() as usize, 0)?;
     let word = encoded(rt, alloc, g, &stripe)?;
     check_coder(rt, alloc, &LaneCoder, g, &word)?;
     check_coder(rt, alloc, &ParCoder, g, &word)
