@@ -8,6 +8,7 @@ use session_rules::{Answer, LostChunk, Missing};
 use std::alloc::{AllocError, Global};
 use std::test::Fail;
 use store_map::{ByteList, ListOf, Name, NameFault, Reply};
+use text_tables::faults::same;
 
 fn sink(alloc: Global, failing: &[u64]) -> Result<DripSink, AllocError> {
     Ok(DripSink::new(
@@ -16,14 +17,16 @@ fn sink(alloc: Global, failing: &[u64]) -> Result<DripSink, AllocError> {
     ))
 }
 
-// Whether these bytes are written for an answer, one at a time, by way of a block of so many bytes.
-fn writes(alloc: Global, room: usize, answer: &Answer, bytes: &[u8]) -> Result<bool, AllocError>
+// Holds what is written for an answer, one byte at a time, by way of a block of so many bytes, against these bytes.
+fn writes(alloc: Global, room: usize, answer: &Answer, bytes: &[u8]) -> Result<(), Fail>
     requires { IsWritable answer.now }
 {
     let mut block = Vec::with_capacity(alloc, room)?;
     let mut sink = sink(alloc, &[])?;
-    let done = write_answer(&mut sink, &mut block, answer);
-    Ok(done.is_ok() && sink.kept() == bytes)
+    match write_answer(&mut sink, &mut block, answer) {
+        Ok(()) => same(sink.kept(), bytes),
+        Err(WriteFault) => Err(Fail::from("a write failed")),
+    }
 }
 
 // The answer whose bytes are this kind alone.
@@ -44,33 +47,18 @@ fn answer_of(kind: u8) -> Answer
     }
 }
 
-fn is_kind_alone(alloc: Global, kind: u8) -> Result<bool, AllocError> {
-    writes(alloc, 16, &answer_of(kind), &[0, 0, 0, 1, kind])
-}
-
-#[test]
-fn kinds_alone(rt: HostRuntime) -> Result<(), Fail> {
+fn writes_kinds_alone(alloc: Global) -> Result<(), Fail> {
     for kind in [0, 3, 4, 5, 8, 9, 10, 11, 12, 13] {
-        assert!(rt; is_kind_alone(rt.alloc(), kind)?);
+        writes(alloc, 16, &answer_of(kind), &[0, 0, 0, 1, kind])?;
     }
     Ok(())
 }
 
-fn writes_numbers(alloc: Global) -> Result<bool, AllocError> {
+fn writes_numbers(alloc: Global) -> Result<(), Fail> {
     let many = Answer::TooMany(65);
-    writes(alloc, 16, &many, b"\0\0\0\x09\x0e\0\0\0\0\0\0\0\x41")
-}
-
-fn writes_length(alloc: Global) -> Result<bool, AllocError> {
+    writes(alloc, 16, &many, b"\0\0\0\x09\x0e\0\0\0\0\0\0\0\x41")?;
     let length = Answer::Replied(Reply::Length(258));
     writes(alloc, 0, &length, b"\0\0\0\x09\x02\0\0\0\0\0\0\x01\x02")
-}
-
-#[test]
-fn numbers(rt: HostRuntime) -> Result<(), Fail> {
-    assert!(rt; writes_numbers(rt.alloc())?);
-    assert!(rt; writes_length(rt.alloc())?);
-    Ok(())
 }
 
 fn replied(alloc: Global) -> Result<Answer, AllocError>
@@ -80,8 +68,10 @@ fn replied(alloc: Global) -> Result<Answer, AllocError>
     Ok(Answer::Replied(Reply::Bytes(bytes)))
 }
 
-fn writes_bytes(alloc: Global, room: usize) -> Result<bool, AllocError> {
-    writes(alloc, room, &replied(alloc)?, b"\0\0\0\x03\x01\x07\x08")
+fn writes_bytes(alloc: Global) -> Result<(), Fail> {
+    let answer = replied(alloc)?;
+    writes(alloc, 16, &answer, b"\0\0\0\x03\x01\x07\x08")?;
+    writes(alloc, 6, &answer, b"\0\0\0\x03\x01\x07\x08")
 }
 
 // A stripe of which two servers lack their chunks.
@@ -109,8 +99,10 @@ const UNAVAILABLE: &[u8] = b"\0\0\0\x2e\x06\0\0\0\x01\x02\
 \0\0\0\0\0\0\0\0\0\0\0\0\0\0\0\0\0\0\0\x01\
 \0\0\0\x02\0\0\0\0\0\0\0\x03\0\0\0\0\0\0\0\x04";
 
-fn writes_unavailable(alloc: Global, room: usize) -> Result<bool, AllocError> {
-    writes(alloc, room, &unavailable(alloc)?, UNAVAILABLE)
+fn writes_unavailable(alloc: Global) -> Result<(), Fail> {
+    let answer = unavailable(alloc)?;
+    writes(alloc, 64, &answer, UNAVAILABLE)?;
+    writes(alloc, 10, &answer, UNAVAILABLE)
 }
 
 fn lost(alloc: Global, server: u32) -> Result<LostChunk, NameFault> {
@@ -138,8 +130,10 @@ fn scrubbed(alloc: Global) -> Result<Answer, Fail>
 
 const SCRUBBED: &[u8] = b"\0\0\0\x19\x0f\0\0\0\x02\x01a\0\0\0\0\0\0\0\0\x01a\0\0\0\0\0\0\0\x01";
 
-fn writes_scrubbed(alloc: Global, room: usize) -> Result<bool, Fail> {
-    Ok(writes(alloc, room, &scrubbed(alloc)?, SCRUBBED)?)
+fn writes_scrubbed(alloc: Global) -> Result<(), Fail> {
+    let answer = scrubbed(alloc)?;
+    writes(alloc, 64, &answer, SCRUBBED)?;
+    writes(alloc, 0, &answer, SCRUBBED)
 }
 
 fn healed(alloc: Global) -> Result<Answer, AllocError>
@@ -154,35 +148,15 @@ fn healed(alloc: Global) -> Result<Answer, AllocError>
 
 const HEALED: &[u8] = b"\0\0\0\x19\x10\0\0\0\0\0\0\0\x02\0\0\0\0\0\0\0\0\0\0\0\0\0\0\0\x06";
 
-fn writes_healed(alloc: Global, room: usize) -> Result<bool, AllocError> {
-    writes(alloc, room, &healed(alloc)?, HEALED)
-}
-
 #[test]
-fn bytes_of_an_object(rt: HostRuntime) -> Result<(), Fail> {
-    assert!(rt; writes_bytes(rt.alloc(), 16)?);
-    assert!(rt; writes_bytes(rt.alloc(), 6)?);
-    Ok(())
-}
-
-#[test]
-fn servers_that_lack_chunks(rt: HostRuntime) -> Result<(), Fail> {
-    assert!(rt; writes_unavailable(rt.alloc(), 64)?);
-    assert!(rt; writes_unavailable(rt.alloc(), 10)?);
-    Ok(())
-}
-
-#[test]
-fn chunks_that_are_lost(rt: HostRuntime) -> Result<(), Fail> {
-    assert!(rt; writes_scrubbed(rt.alloc(), 64)?);
-    assert!(rt; writes_scrubbed(rt.alloc(), 0)?);
-    Ok(())
-}
-
-#[test]
-fn chunks_made_anew(rt: HostRuntime) -> Result<(), Fail> {
-    assert!(rt; writes_healed(rt.alloc(), 64)?);
-    Ok(())
+fn answers_are_written(rt: HostRuntime) -> Result<(), Fail> {
+    let alloc = rt.alloc();
+    writes_kinds_alone(alloc)?;
+    writes_numbers(alloc)?;
+    writes_bytes(alloc)?;
+    writes_unavailable(alloc)?;
+    writes_scrubbed(alloc)?;
+    writes(alloc, 64, &healed(alloc)?, HEALED)
 }
 
 // How many bytes are written of an answer before the write with this number fails.
@@ -195,17 +169,20 @@ fn cut(alloc: Global, room: usize, failing: u64) -> Result<Option<u64>, AllocErr
     }
 }
 
-fn is_cut(alloc: Global, room: usize, failing: u64, at: Option<u64>) -> Result<bool, AllocError> {
-    Ok(cut(alloc, room, failing)? == at)
+fn is_cut(alloc: Global, room: usize, failing: u64, at: Option<u64>) -> Result<(), Fail> {
+    let found = cut(alloc, room, failing)?;
+    if found == at {
+        return Ok(());
+    }
+    Err(Fail::new(format_args!("write {failing} failed: found {found:?}")))
 }
 
 #[test]
 fn writes_fail(rt: HostRuntime) -> Result<(), Fail> {
     let alloc = rt.alloc();
-    assert!(rt; is_cut(alloc, 64, 0, Some(0))?);
-    assert!(rt; is_cut(alloc, 64, 12, Some(12))?);
-    assert!(rt; is_cut(alloc, 64, 13, None)?);
-    assert!(rt; is_cut(alloc, 0, 3, Some(3))?);
-    assert!(rt; is_cut(alloc, 4, 5, Some(5))?);
-    Ok(())
+    is_cut(alloc, 64, 0, Some(0))?;
+    is_cut(alloc, 64, 12, Some(12))?;
+    is_cut(alloc, 64, 13, None)?;
+    is_cut(alloc, 0, 3, Some(3))?;
+    is_cut(alloc, 4, 5, Some(5))
 }

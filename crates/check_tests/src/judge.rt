@@ -4,7 +4,7 @@ use script_text::read_script;
 use std::alloc::Global;
 use std::test::Fail;
 use store_map::{Script, Transcript};
-use text_tables::faults::{Around, joined, parts, rows_of, same};
+use text_tables::faults::{Around, failed, joined, parts, rows_of};
 use transcript_read::read_transcript;
 
 /// Two clients that put and read, one that writes, one repairer. Server 1 is emptied once.
@@ -82,19 +82,21 @@ fn judged(alloc: Global, script: &[u8], text: &[u8]) -> Result<Vec<u8>, Fail> {
 fn is_judged(alloc: Global, script: &[u8], around: Around<'_>, row: &[u8]) -> Result<(), Fail> {
     let (wanted, text) = parts(row)?;
     let text = joined(alloc, around.before, text, around.behind)?;
-    same(&judged(alloc, script, &text)?, wanted)
+    if judged(alloc, script, &text)?.as_slice() == wanted {
+        return Ok(());
+    }
+    Err(failed(row))
 }
 
 /// Holds the line of each row's transcript, with what stands around it, against the one that is wanted, which the row begins with, `>`
 /// behind it. The rows are parted by `|`; there are so many.
 pub fn are_judged(
-    rt: &impl AllocGlobal,
+    alloc: Global,
     script: &[u8],
     around: Around<'_>,
     rows: usize,
     table: &[u8],
 ) -> Result<(), Fail> {
-    let alloc = rt.alloc();
     for row in &rows_of(alloc, table, b'|', rows)? {
         is_judged(alloc, script, around, row)?;
     }

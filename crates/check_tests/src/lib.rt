@@ -6,25 +6,15 @@
 #[cfg(test)]
 mod answers;
 #[cfg(test)]
-mod inputs;
+mod frames;
 #[cfg(test)]
 mod judge;
-#[cfg(test)]
-mod legal;
-#[cfg(test)]
-mod order;
-#[cfg(test)]
-mod refusals;
-#[cfg(test)]
-mod requests;
 #[cfg(test)]
 pub mod spoiled_rows;
 #[cfg(test)]
 mod streams;
 #[cfg(test)]
-mod tables;
-#[cfg(test)]
-mod tails;
+mod verdicts;
 #[cfg(test)]
 pub mod worked_rows;
 

@@ -9,24 +9,16 @@ ghost use Rattle.check_tests.specs.FaultsOfRaces.{too_few_races, lost_to_a_read,
 ghost use Rattle.check_tests.specs.FaultsOfResults.{given_up_by_nobody, given_up_twice, superseded_by_nothing, other_stripe, target_never_away, never_away};
 ghost use Rattle.check_tests.specs.FaultsOfTakes.{read_left_out, rebuild_left_out, given_to_nobody, epoch_too_high, takes_left_out};
 
-/// Calls that the script hasn't, or that stand out of order.
-pub fn faults_of_calls()
+/// Calls that the script hasn't, or that stand out of order; answers that are left out, or come twice; replies and objects that aren't the plain map's.
+pub fn faults_of_lines()
     ensures call_too_many { IsFaulty call_too_many }
     ensures actor_too_many { IsFaulty actor_too_many }
     ensures point_twice { IsFaulty point_twice }
     ensures calls_swapped { IsFaulty calls_swapped }
-{}
-
-/// Answers that are left out, or come twice.
-pub fn faults_of_order()
     ensures answer_left_out { IsFaulty answer_left_out }
     ensures answered_twice { IsFaulty answered_twice }
     ensures open_call_left_out { IsFaulty open_call_left_out }
     ensures answered_and_open { IsFaulty answered_and_open }
-{}
-
-/// Replies and objects that aren't the plain map's.
-pub fn faults_of_replies()
     ensures other_bytes { IsFaulty other_bytes }
     ensures open_read { IsFaulty open_read }
     ensures object_left_out { IsFaulty object_left_out }
@@ -34,26 +26,18 @@ pub fn faults_of_replies()
     ensures object_too_many { IsFaulty object_too_many }
 {}
 
-/// Refusals that name too few servers, or servers that had their chunk.
-pub fn faults_of_refusals()
+/// Refusals that name too few servers, or servers that had their chunk; races that weren't lost; calls that nobody gave up, rebuilds that name something else, and servers that were never away.
+pub fn faults_of_causes()
     ensures too_few_servers { IsFaulty too_few_servers }
     ensures never_emptied { IsFaulty never_emptied }
     ensures server_twice { IsFaulty server_twice }
     ensures server_too_many { IsFaulty server_too_many }
     ensures placed_later { IsFaulty placed_later }
     ensures refused_put_of_form_one { IsFaulty refused_put_of_form_one }
-{}
-
-/// Races that weren't lost.
-pub fn faults_of_races()
     ensures too_few_races { IsFaulty too_few_races }
     ensures lost_to_a_read { IsFaulty lost_to_a_read }
     ensures lost_to_its_base { IsFaulty lost_to_its_base }
     ensures races_overlap { IsFaulty races_overlap }
-{}
-
-/// Calls that nobody gave up, rebuilds that name something else, and servers that were never away.
-pub fn faults_of_results()
     ensures given_up_by_nobody { IsFaulty given_up_by_nobody }
     ensures given_up_twice { IsFaulty given_up_twice }
     ensures superseded_by_nothing { IsFaulty superseded_by_nothing }

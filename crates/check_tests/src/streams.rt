@@ -34,25 +34,13 @@ fn ends_so(
     holds(is_so(&read, wanted), "read")
 }
 
-#[test]
-fn reads_to_the_end(rt: HostRuntime) -> Result<(), Fail> {
-    let alloc = rt.alloc();
-    ends_so(alloc, &[], 6, Ok(b"abcdef"))?;
-    ends_so(alloc, &[2, 7], u64::MAX, Ok(b"abcdef"))?;
-    ends_so(alloc, &[], 5, Err(InFault::InputTooLong))?;
-    ends_so(alloc, &[0], 6, Err(InFault::ReadFault))?;
-    ends_so(alloc, &[1], 6, Err(InFault::ReadFault))
-}
-
 // How many bytes are read of so many.
 fn read_of(alloc: Global, count: usize, budget: u64) -> Result<usize, InFault> {
     let long = vec![in alloc; 7u8; count]?;
     Ok(read_all(alloc, &mut SureSource::new(long), budget)?.len())
 }
 
-#[test]
-fn reads_many_blocks(rt: HostRuntime) -> Result<(), Fail> {
-    let alloc = rt.alloc();
+fn reads_many(alloc: Global) -> Result<(), Fail> {
     holds(read_of(alloc, 200_000, 200_000) == Ok(200_000), "all")?;
     holds(
         read_of(alloc, 200_000, 199_999) == Err(InFault::InputTooLong),
@@ -60,16 +48,22 @@ fn reads_many_blocks(rt: HostRuntime) -> Result<(), Fail> {
     )
 }
 
+#[test]
+fn reads_to_the_end(rt: HostRuntime) -> Result<(), Fail> {
+    let alloc = rt.alloc();
+    ends_so(alloc, &[], 6, Ok(b"abcdef"))?;
+    ends_so(alloc, &[2, 7], u64::MAX, Ok(b"abcdef"))?;
+    ends_so(alloc, &[], 5, Err(InFault::InputTooLong))?;
+    ends_so(alloc, &[0], 6, Err(InFault::ReadFault))?;
+    ends_so(alloc, &[1], 6, Err(InFault::ReadFault))?;
+    reads_many(alloc)
+}
+
 fn keeps(sink: &mut SureSink) -> Result<(), Fail> {
     holds(write_all(sink, b"abc") == Ok(()), "first")?;
     holds(write_all(sink, b"de") == Ok(()), "second")?;
     holds(sink.kept() == b"abcd".as_slice(), "kept")?;
     holds(sink.taken() == 5, "taken")
-}
-
-#[test]
-fn keeps_what_has_place(rt: HostRuntime) -> Result<(), Fail> {
-    keeps(&mut SureSink::new(Vec::with_capacity(rt.alloc(), 4)?))
 }
 
 fn fails_once(sink: &mut MemSink) -> Result<(), Fail> {
@@ -81,10 +75,11 @@ fn fails_once(sink: &mut MemSink) -> Result<(), Fail> {
 }
 
 #[test]
-fn fails_at_the_listed_writes(rt: HostRuntime) -> Result<(), Fail> {
-    let room = Vec::with_capacity(rt.alloc(), 8)?;
-    let failing = [1u64].to_vec(rt.alloc())?;
-    fails_once(&mut MemSink::new(room, failing))
+fn keeps_what_has_place_and_fails_once(rt: HostRuntime) -> Result<(), Fail> {
+    let alloc = rt.alloc();
+    keeps(&mut SureSink::new(Vec::with_capacity(alloc, 4)?))?;
+    let failing = [1u64].to_vec(alloc)?;
+    fails_once(&mut MemSink::new(Vec::with_capacity(alloc, 8)?, failing))
 }
 
 // Interrupts each second call, gives and takes one byte at a time, and fails once its bytes are gone.
@@ -146,8 +141,8 @@ impl Write for Full {
     }
 }
 
-#[test]
-fn reads_again_after_an_interruption() -> Result<(), Fail> {
+// A source reads again behind an interruption.
+fn reads_again() -> Result<(), Fail> {
     let mut buf = [0; 4];
     let mut source = StdSource::new(Flaky { calls: 0, left: 1 });
     holds(source.read(&mut buf) == Ok(1), "first")?;
@@ -155,18 +150,25 @@ fn reads_again_after_an_interruption() -> Result<(), Fail> {
     holds(source.read(&mut buf) == Err(Failed), "second")
 }
 
-#[test]
-fn writes_again_after_an_interruption() -> Result<(), Fail> {
+// A sink writes again behind an interruption.
+fn writes_again() -> Result<(), Fail> {
     let mut sink = StdSink::new(Flaky { calls: 0, left: 2 });
     holds(write_all(&mut sink, b"ab") == Ok(()), "first")?;
     holds(write_all(&mut sink, b"c") == Err(WriteFault), "second")
 }
 
-#[test]
-fn writes_nothing_where_nothing_is_taken() -> Result<(), Fail> {
+// Of a writer that takes nothing.
+fn writes_nothing() -> Result<(), Fail> {
     let full = write_all(&mut StdSink::new(Full), b"c");
     holds(full == Err(WriteFault), "a byte")?;
     holds(write_all(&mut StdSink::new(Full), b"") == Ok(()), "none")
+}
+
+#[test]
+fn reads_and_writes_by_std() -> Result<(), Fail> {
+    reads_again()?;
+    writes_again()?;
+    writes_nothing()
 }
 
 fn said(alloc: Global) -> Result<String, AllocError> {
