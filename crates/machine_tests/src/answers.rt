@@ -1,9 +1,7 @@
 //! Worked scripts of answers and refusals.
-use crate::worked::all_show;
-use std::test::Fail;
 
 // Replies of the plain map, and what was taken for them.
-const ANSWERS: &[u8] = b"\
+pub const ANSWERS: &[u8] = b"\
 no actor>
 clay 1
 code 2 2 1
@@ -129,8 +127,3 @@ T 3 0 1 0
 T 4 0 1 0
 end
 ";
-
-#[test]
-fn answers(rt: HostRuntime) -> Result<(), Fail> {
-    all_show(&rt, 6, ANSWERS)
-}

@@ -1,9 +1,7 @@
 //! Worked scripts with servers that are away.
-use crate::worked::all_end;
-use std::test::Fail;
 
 // Servers that are away for a time.
-const AWAY: &[u8] = b"\
+pub const AWAY: &[u8] = b"\
 a put skips a server that is away, and a get makes its chunk>
 client
 put a hex:0100000000000000
@@ -104,8 +102,3 @@ T 2 0 1 0
 T 3 0 1 0
 end
 ";
-
-#[test]
-fn servers_that_are_away(rt: HostRuntime) -> Result<(), Fail> {
-    all_end(&rt, 5, AWAY)
-}

@@ -1,9 +1,9 @@
 //! Worked scripts in which chunks are lost and made again.
-use crate::worked::{Repeated, all_end, all_show, show_from};
+use crate::worked::{Repeated, show_from};
 use std::test::Fail;
 
 // Gets after a put whose chunks are lost.
-const READS: &[u8] = b"\
+pub const READS: &[u8] = b"\
 a get after one loss makes the chunk from the repair layers>
 client
 put a hex:0100000000000000
@@ -66,7 +66,7 @@ end
 ";
 
 // Rebuilds of one chunk.
-const REBUILDS: &[u8] = b"\
+pub const REBUILDS: &[u8] = b"\
 a rebuild of a stripe that is replaced meanwhile>
 clay 1
 code 2 2 1
@@ -125,16 +125,6 @@ T 4 8 1 0
 end
 ";
 
-#[test]
-fn reads_after_losses(rt: HostRuntime) -> Result<(), Fail> {
-    all_end(&rt, 3, READS)
-}
-
-#[test]
-fn rebuilds(rt: HostRuntime) -> Result<(), Fail> {
-    all_show(&rt, 2, REBUILDS)
-}
-
 const PUT_AND_GET: &[u8] = b"\
 clay 1
 code 2 2 1
@@ -146,6 +136,7 @@ schedule
 
 // A server is emptied after so many of the put's eleven steps.
 const ONE_LOSS: Repeated<'static> = Repeated {
+    name: "one loss in a put",
     before: PUT_AND_GET,
     line: b"c 0",
     behind: b"\
@@ -179,14 +170,9 @@ T 3 2 1 0
 end
 ";
 
-#[test]
-fn one_loss_at_each_step_of_a_put(rt: HostRuntime) -> Result<(), Fail> {
-    show_from(&rt, ONE_LOSS, 0, 3, BEFORE_ITS_CHUNK)?;
-    show_from(&rt, ONE_LOSS, 3, 12, AFTER_ITS_CHUNK)
-}
-
 // Three servers are emptied after so many of the put's eleven steps.
 const THREE_LOSSES: Repeated<'static> = Repeated {
+    name: "three losses in a put",
     before: PUT_AND_GET,
     line: b"c 0",
     behind: b"\
@@ -245,16 +231,9 @@ T 3 0 1 0
 end
 ";
 
-#[test]
-fn three_losses_at_each_step_of_a_put(rt: HostRuntime) -> Result<(), Fail> {
-    show_from(&rt, THREE_LOSSES, 0, 3, NONE_LOST)?;
-    show_from(&rt, THREE_LOSSES, 3, 4, ONE_LOST)?;
-    show_from(&rt, THREE_LOSSES, 4, 5, TWO_LOST)?;
-    show_from(&rt, THREE_LOSSES, 5, 12, THREE_LOST)
-}
-
 // After a put, a server is emptied after so many of the write's thirteen steps.
 const WRITE: Repeated<'static> = Repeated {
+    name: "a loss in a write",
     before: b"\
 clay 1
 code 2 2 1
@@ -315,15 +294,9 @@ T 3 2 1 0
 end
 ";
 
-#[test]
-fn a_loss_at_each_step_of_a_write(rt: HostRuntime) -> Result<(), Fail> {
-    show_from(&rt, WRITE, 0, 2, OLD_CHUNK_LOST)?;
-    show_from(&rt, WRITE, 2, 5, BETWEEN_THE_CHUNKS)?;
-    show_from(&rt, WRITE, 5, 14, NEW_CHUNK_LOST)
-}
-
 // A second server is emptied after so many of the rebuild's eleven steps.
 const REBUILD: Repeated<'static> = Repeated {
+    name: "a loss in a rebuild",
     before: b"\
 clay 1
 code 2 2 1
@@ -368,7 +341,16 @@ end
 ";
 
 #[test]
-fn a_loss_at_each_step_of_a_rebuild(rt: HostRuntime) -> Result<(), Fail> {
+fn losses_at_each_step(rt: HostRuntime) -> Result<(), Fail> {
+    show_from(&rt, ONE_LOSS, 0, 3, BEFORE_ITS_CHUNK)?;
+    show_from(&rt, ONE_LOSS, 3, 12, AFTER_ITS_CHUNK)?;
+    show_from(&rt, THREE_LOSSES, 0, 3, NONE_LOST)?;
+    show_from(&rt, THREE_LOSSES, 3, 4, ONE_LOST)?;
+    show_from(&rt, THREE_LOSSES, 4, 5, TWO_LOST)?;
+    show_from(&rt, THREE_LOSSES, 5, 12, THREE_LOST)?;
+    show_from(&rt, WRITE, 0, 2, OLD_CHUNK_LOST)?;
+    show_from(&rt, WRITE, 2, 5, BETWEEN_THE_CHUNKS)?;
+    show_from(&rt, WRITE, 5, 14, NEW_CHUNK_LOST)?;
     show_from(&rt, REBUILD, 0, 6, FROM_WHOLE_CHUNKS)?;
     show_from(&rt, REBUILD, 6, 12, FROM_REPAIR_LAYERS)
 }

@@ -1,9 +1,7 @@
 //! Writes and deletes, and the bytes that are there afterwards.
-use crate::worked::all_end;
-use std::test::Fail;
 
 // Of parts of stripes the old bytes are gathered, of a stripe that is written whole none. An empty write changes no byte.
-const BYTES: &[u8] = b"\
+pub const BYTES: &[u8] = b"\
 writes over parts of two stripes, over a whole one, past the end from inside and from the end>
 client
 put a ramp:01:16
@@ -122,7 +120,7 @@ end
 ";
 
 // The writes have two tries.
-const MEANWHILE: &[u8] = b"\
+pub const MEANWHILE: &[u8] = b"\
 another change comes before each of its two commits>
 client
 put a ramp:01:8
@@ -254,9 +252,3 @@ T 2 0 2 0
 T 3 0 2 0
 end
 ";
-
-#[test]
-fn writes_and_deletes_end(rt: HostRuntime) -> Result<(), Fail> {
-    all_end(&rt, 3, BYTES)?;
-    all_end(&rt, 5, MEANWHILE)
-}

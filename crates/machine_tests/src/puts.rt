@@ -1,8 +1,6 @@
 //! Each end of a put.
-use crate::worked::all_end;
-use std::test::Fail;
 
-const PUTS: &[u8] = b"\
+pub const PUTS: &[u8] = b"\
 puts of several lengths, and chunks that stand until they are swept>
 client
 put a ramp:01:8
@@ -71,8 +69,3 @@ T 2 0 1 0
 T 3 0 1 0
 end
 ";
-
-#[test]
-fn puts_end(rt: HostRuntime) -> Result<(), Fail> {
-    all_end(&rt, 3, PUTS)
-}

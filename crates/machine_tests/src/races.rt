@@ -1,9 +1,7 @@
 //! Worked scripts of races, and of calls that are given up.
-use crate::worked::{all_end, all_show};
-use std::test::Fail;
 
 // Calls of two clients on one object.
-const RACES: &[u8] = b"\
+pub const RACES: &[u8] = b"\
 a get has the bytes of its look, though they are replaced and swept>
 clay 1
 code 2 2 1
@@ -91,7 +89,7 @@ end
 ";
 
 // Puts that are left by their client or given up by the operator.
-const GIVEN_UP: &[u8] = b"\
+pub const GIVEN_UP: &[u8] = b"\
 a put is left before its commit, and reaped>
 client
 leave 6
@@ -150,13 +148,3 @@ T 2 0 1 0
 T 3 0 1 0
 end
 ";
-
-#[test]
-fn races(rt: HostRuntime) -> Result<(), Fail> {
-    all_show(&rt, 3, RACES)
-}
-
-#[test]
-fn calls_given_up(rt: HostRuntime) -> Result<(), Fail> {
-    all_end(&rt, 3, GIVEN_UP)
-}

@@ -1,11 +1,9 @@
 //! Each end of a get, a read and a stat.
-use crate::worked::all_end;
-use std::test::Fail;
 
 // A get takes from the data chunks alone. A read takes the subchunks that it meets: of 6 to 10 the last two of the first
 // stripe's second chunk, and the first two of the next stripe. Of one lost chunk the repair layers of the three others are
 // taken, beside the other data chunk; of two the two that are left are taken whole.
-const READS: &[u8] = b"\
+pub const READS: &[u8] = b"\
 gets, reads and stats are answered>
 client
 get a
@@ -65,8 +63,3 @@ T 2 0 1 0
 T 3 0 1 0
 end
 ";
-
-#[test]
-fn gets_reads_and_stats_end(rt: HostRuntime) -> Result<(), Fail> {
-    all_end(&rt, 2, READS)
-}

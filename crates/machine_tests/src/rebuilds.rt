@@ -1,9 +1,7 @@
 //! Each end of a rebuild.
-use crate::worked::all_end;
-use std::test::Fail;
 
 // Of a lost chunk the repair layers of the three others are taken, or whole chunks of as many servers as there are data chunks.
-const REBUILDS: &[u8] = b"\
+pub const REBUILDS: &[u8] = b"\
 of no object, of no stripe, of a chunk that is there, of one that is lost, and at a server that is away>
 client
 put a ramp:01:8
@@ -154,8 +152,3 @@ T 2 2 2 0
 T 3 2 2 0
 end
 ";
-
-#[test]
-fn rebuilds_end(rt: HostRuntime) -> Result<(), Fail> {
-    all_end(&rt, 5, REBUILDS)
-}

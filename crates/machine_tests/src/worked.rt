@@ -2,6 +2,14 @@
 //! row.
 ghost use Rattle.store_map.specs.Naming.{IsValid};
 
+use crate::answers::ANSWERS;
+use crate::away::AWAY;
+use crate::losses;
+use crate::patches::{BYTES, MEANWHILE};
+use crate::puts::PUTS;
+use crate::races::{GIVEN_UP, RACES};
+use crate::reads::READS;
+use crate::rebuilds::REBUILDS;
 use clay_lanes::LaneCoder;
 use script_text::read_script;
 use std::alloc::Global;
@@ -47,7 +55,9 @@ fn row_shows<R: Threads + Sync + AllocGlobal>(rt: &R, head: &[u8], row: &[u8]) -
     Err(failed(name))
 }
 
-fn all_show_behind<R: Threads + Sync + AllocGlobal>(
+// Holds what a run of each row's script, with this head before it, shows against the row's transcript. The rows are parted by `|`,
+// and a row's name, script and transcript by `>`; there are so many.
+fn all_show<R: Threads + Sync + AllocGlobal>(
     rt: &R,
     head: &[u8],
     rows: usize,
@@ -59,31 +69,28 @@ fn all_show_behind<R: Threads + Sync + AllocGlobal>(
     Ok(())
 }
 
-/// Holds what a run of each row's script shows against the row's transcript. The rows are parted by `|`, and
-/// a row's name, script and transcript by `>`; there are so many.
-pub fn all_show<R: Threads + Sync + AllocGlobal>(
-    rt: &R,
-    rows: usize,
-    table: &[u8],
-) -> Result<(), Fail> {
-    all_show_behind(rt, b"", rows, table)
-}
-
-// Stripes of 8 bytes, objects of 24 at most, two tries.
+// The first lines of most scripts: stripes of 8 bytes, objects of 24 at most, two tries.
 const HEAD: &[u8] = b"clay 2\ncode 2 2 1\nsize 24\ntries 2\n";
 
-/// The same of scripts that stand in their rows without their first lines, which are alike.
-pub fn all_end<R: Threads + Sync + AllocGlobal>(
-    rt: &R,
-    rows: usize,
-    table: &[u8],
-) -> Result<(), Fail> {
-    all_show_behind(rt, HEAD, rows, table)
+#[test]
+fn calls_end_as_reckoned(rt: HostRuntime) -> Result<(), Fail> {
+    all_show(&rt, b"", 6, ANSWERS)?;
+    all_show(&rt, b"", 3, RACES)?;
+    all_show(&rt, b"", 2, losses::REBUILDS)?;
+    all_show(&rt, HEAD, 3, losses::READS)?;
+    all_show(&rt, HEAD, 3, GIVEN_UP)?;
+    all_show(&rt, HEAD, 5, AWAY)?;
+    all_show(&rt, HEAD, 3, PUTS)?;
+    all_show(&rt, HEAD, 2, READS)?;
+    all_show(&rt, HEAD, 3, BYTES)?;
+    all_show(&rt, HEAD, 5, MEANWHILE)?;
+    all_show(&rt, HEAD, 5, REBUILDS)
 }
 
 /// A script in which a line of the schedule stands some number of times.
 #[derive(Clone, Copy)]
 pub struct Repeated<'a> {
+    pub name: &'a str,
     pub before: &'a [u8],
     pub line: &'a [u8],
     pub behind: &'a [u8],
@@ -110,7 +117,8 @@ pub fn show_from<R: Threads + Sync + AllocGlobal>(
     for times in first..end {
         let script = script_with(rt.alloc(), repeated, times)?;
         if !shows(rt, &script, transcript)? {
-            return Err(Fail::new(format_args!("{times} times: not what is wanted")));
+            let name = repeated.name;
+            return Err(Fail::new(format_args!("{name}, {times} times: not what is wanted")));
         }
     }
     Ok(())
