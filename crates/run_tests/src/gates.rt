@@ -1,6 +1,6 @@
 //! The gates of all runs here, as one type: a whole run is built anew for each kind of gate and of coder.
 use crate::locked_steps::PlaceGate;
-use crate::sweeps::{HoldingGate, StepsGate};
+use crate::sweeps::SweepGate;
 use store_map::Actor;
 use store_run::{Gate, Place};
 
@@ -8,8 +8,7 @@ use store_run::{Gate, Place};
 #[derive(Clone, Copy)]
 pub enum TestGate<'a> {
     Nobody,
-    Steps(&'a StepsGate),
-    Holding(&'a HoldingGate),
+    Sweeps(&'a SweepGate),
     Places(&'a PlaceGate),
 }
 
@@ -17,8 +16,7 @@ impl<'a> Gate for TestGate<'a> {
     fn pass(&self, actor: Actor, step: u64, place: Place) {
         match self {
             TestGate::Nobody => {}
-            TestGate::Steps(gate) => gate.pass(actor),
-            TestGate::Holding(gate) => gate.pass(actor, step),
+            TestGate::Sweeps(gate) => gate.pass(actor, step),
             TestGate::Places(gate) => gate.pass(actor, place),
         }
     }

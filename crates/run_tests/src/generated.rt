@@ -24,7 +24,7 @@ fn run_is_legal<R: Threads + Wait + Sync + AllocGlobal>(rt: &R, start: u64) -> R
         &Counting::new(ParCoder),
         &TestGate::Nobody,
     )?;
-    expect_legal(alloc, &generate(alloc, start, CALLS)?, &transcript)
+    expect_legal(alloc, "drawn", &generate(alloc, start, CALLS)?, &transcript)
 }
 
 #[test]

@@ -1,8 +1,11 @@
 //! Tests of threads and of sessions. Whole runs in threads, of what no clause says: that the sweeper sweeps while clients have
 //! steps, that a run asks the coder that it was given, and that the checker finds the transcripts of its runs legal. The lock of
-//! `turn_lock` in use: turns that add to one list, in one thread and in two. Framed sessions over memory.
+//! `turn_lock` in use: turns that add to one list, in one thread and in two. Framed sessions over memory. All but the types of that
+//! list and its workers is tests, so it is proved once.
 #![tactic(auto)]
 
+#[cfg(test)]
+mod adding;
 #[cfg(test)]
 mod coders;
 #[cfg(test)]
@@ -33,6 +36,8 @@ mod sweeps;
 #[cfg(test)]
 mod words;
 mod workers;
+#[cfg(test)]
+mod working;
 
-pub use number_list::{Line, NumberList, add};
-pub use workers::{Worker, collect, hire, work_together};
+pub use number_list::{Line, NumberList};
+pub use workers::Worker;

@@ -1,6 +1,6 @@
 //! Turns at one lock, in one thread and in two.
 use crate::number_list::Line;
-use crate::workers::{collect, hire, work_together};
+use crate::working::{collect, hire, work_together};
 use std::test::Fail;
 
 // How many lines each worker adds where two threads work.

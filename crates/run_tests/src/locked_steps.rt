@@ -1,8 +1,7 @@
 //! Whether a gate is told of each kind of step while the lock of its place is held: nobody else is told of a step at that
 //! place meanwhile.
 use crate::gates::TestGate;
-use crate::runs::transcript_of;
-use std::alloc::Global;
+use crate::runs::{transcript_of, unfolded};
 use std::sync::Wait;
 use std::sync::atomic::{AtomicBool, AtomicU64, Ordering};
 use std::test::Fail;
@@ -10,7 +9,6 @@ use std::thread;
 use std::thread::Threads;
 use store_map::Actor;
 use store_run::Place;
-use text_tables::scripts::repeated;
 
 // So many watched steps are held, each for so many looks: the other worker's client comes to each place meanwhile.
 const HELD: u64 = 8;
@@ -96,52 +94,57 @@ impl PlaceGate {
 
 // Two clients put, a repairer finds its chunk or makes it, the sweeper has garbage, and the operator has a line of each kind.
 // One worker has client 0, the repairer and the operator, the other one client 1 and the sweeper.
-fn script_of_all(alloc: Global) -> Result<Vec<u8>, Fail> {
-    let head = b"clay 2\ncode 2 2 1\nclient\n";
-    let script = repeated(alloc, head, b"put a hex:0100000000000000\n", 64)?;
-    let script = repeated(alloc, &script, b"client\n", 1)?;
-    let script = repeated(alloc, &script, b"put b hex:0200000000000000\n", 64)?;
-    let script = repeated(alloc, &script, b"repairer\n", 1)?;
-    let script = repeated(alloc, &script, b"rebuild a 0 1\n", 64)?;
-    let script = repeated(alloc, &script, b"schedule\n", 1)?;
-    let lines = b"down 2\nreap c 0\nup 2\nreap r 0\nwipe 1\n";
-    let script = repeated(alloc, &script, lines, 4)?;
-    repeated(alloc, &script, b"drain\nend\n", 1)
-}
+const ALL: &[u8] = b"\
+1>clay 2
+code 2 2 1
+client
+|64>put a hex:0100000000000000
+|1>client
+|64>put b hex:0200000000000000
+|1>repairer
+|64>rebuild a 0 1
+|1>schedule
+|4>down 2
+reap c 0
+up 2
+reap r 0
+wipe 1
+|1>drain
+end
+";
 
 // Fails where the gate is told of such a step outside of the lock, or where there is none.
 fn are_told_inside<R: Threads + Wait + Sync + AllocGlobal>(
     rt: &R,
+    script: &[u8],
+    name: &str,
     actor: Actor,
     at_servers: bool,
 ) -> Result<(), Fail> {
     let gate = PlaceGate::new(actor, at_servers);
-    let script = script_of_all(rt.alloc())?;
-    let _transcript = transcript_of(rt, &script, 2, &TestGate::Places(&gate))?;
+    let _transcript = transcript_of(rt, script, 2, &TestGate::Places(&gate))?;
     let watched = gate.watched.load(Ordering::SeqCst);
     if gate.have_met.load(Ordering::SeqCst) || watched < HELD {
-        return Err(Fail::new(format_args!("{actor:?}, servers {at_servers}: {watched} steps")));
+        return Err(Fail::new(format_args!("{name}, servers {at_servers}: {watched} steps")));
     }
     Ok(())
 }
 
 fn are_told_inside_everywhere<R: Threads + Wait + Sync + AllocGlobal>(
     rt: &R,
+    script: &[u8],
+    name: &str,
     actor: Actor,
 ) -> Result<(), Fail> {
-    are_told_inside(rt, actor, false)?;
-    are_told_inside(rt, actor, true)
+    are_told_inside(rt, script, name, actor, false)?;
+    are_told_inside(rt, script, name, actor, true)
 }
 
 #[test]
 fn all_are_told_inside_the_lock(rt: HostRuntime) -> Result<(), Fail> {
-    for actor in [
-        Actor::Client(0),
-        Actor::Repairer(0),
-        Actor::Sweeper,
-        Actor::Operator,
-    ] {
-        are_told_inside_everywhere(&rt, actor)?;
-    }
-    Ok(())
+    let script = unfolded(rt.alloc(), ALL)?;
+    are_told_inside_everywhere(&rt, &script, "client", Actor::Client(0))?;
+    are_told_inside_everywhere(&rt, &script, "repairer", Actor::Repairer(0))?;
+    are_told_inside_everywhere(&rt, &script, "sweeper", Actor::Sweeper)?;
+    are_told_inside_everywhere(&rt, &script, "operator", Actor::Operator)
 }

@@ -7,7 +7,7 @@ use std::str;
 use std::test::Fail;
 use std::thread::Threads;
 use text_tables::counting::Counting;
-use text_tables::faults::{parts, rows_of};
+use text_tables::faults::{failed, parts, rows_of};
 
 // The bytes that a text of digits spells, which blanks may part for the reader.
 fn bytes_of(alloc: Global, text: &[u8]) -> Result<Vec<u8>, Fail> {
@@ -24,20 +24,16 @@ fn bytes_of(alloc: Global, text: &[u8]) -> Result<Vec<u8>, Fail> {
     }
 }
 
-// Holds a session against what is wanted: its exit status, and what it writes.
+// Whether a session has this exit status and writes that.
 fn ends_so<R: Threads + Sync + AllocGlobal>(
     rt: &R,
     input: &[u8],
     failing: Failing,
-    status: &[u8],
+    status: u8,
     output: &[u8],
-) -> Result<(), Fail> {
+) -> Result<bool, Fail> {
     let ran = run_with(rt, WORDS, input, failing, &Counting::new(ParCoder))?;
-    let wanted: u8 = str::from_utf8(status)?.parse()?;
-    if ran.status.number() == wanted && ran.written.as_slice() == output {
-        return Ok(());
-    }
-    Err(Fail::from("another end"))
+    Ok(ran.status.number() == status && ran.written.as_slice() == output)
 }
 
 /// Holds a row, an input, its exit status and what is written for it, parted by `>`, against the session
@@ -50,9 +46,13 @@ pub fn row_holds<R: Threads + Sync + AllocGlobal>(
     let alloc = rt.alloc();
     let (input, rest) = parts(row)?;
     let (status, output) = parts(rest)?;
+    let status = str::from_utf8(status)?.parse()?;
     let input = bytes_of(alloc, input)?;
     let output = bytes_of(alloc, output)?;
-    ends_so(rt, &input, failing, status, &output)
+    if ends_so(rt, &input, failing, status, &output)? {
+        return Ok(());
+    }
+    Err(failed(row))
 }
 
 /// Holds each row of a table, parted by `;`; there are so many.

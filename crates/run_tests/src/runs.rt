@@ -14,6 +14,8 @@ use std::thread::Threads;
 use store_map::{Script, Transcript};
 use store_run::run;
 use text_tables::counting::Counting;
+use text_tables::faults::parts;
+use text_tables::scripts::repeated;
 
 /// In so many threads each script is run.
 pub const WORKERS: [usize; 4] = [1, 2, 4, 16];
@@ -61,18 +63,23 @@ pub fn transcript_of<R: Threads + Wait + Sync + AllocGlobal>(
 const LEGAL: &[u8] = b"legal\n";
 
 // Fails where the checker's line is another.
-fn expect_line(line: &[u8]) -> Result<(), Fail> {
+fn expect_line(name: &str, line: &[u8]) -> Result<(), Fail> {
     if line == LEGAL {
         return Ok(());
     }
     match str::from_utf8(line) {
-        Ok(line) => Err(Fail::new(format_args!("not legal: {line}"))),
+        Ok(line) => Err(Fail::new(format_args!("{name}: not legal: {line}"))),
         Err(_) => Err(Fail::from("not legal")),
     }
 }
 
-/// Fails where the checker finds the transcript of the script not legal.
-pub fn expect_legal(alloc: Global, script: &Script, transcript: &Transcript) -> Result<(), Fail> {
+/// Fails where the checker finds the transcript of the script of this name not legal.
+pub fn expect_legal(
+    alloc: Global,
+    name: &str,
+    script: &Script,
+    transcript: &Transcript,
+) -> Result<(), Fail> {
     if transcript.history.len() >= 1 << 30
         || transcript.refused.len() >= 1 << 30
         || transcript.repairs.len() >= 1 << 30
@@ -80,30 +87,44 @@ pub fn expect_legal(alloc: Global, script: &Script, transcript: &Transcript) -> 
         return Err(Fail::from("too many lines"));
     }
     let verdict = check(alloc, script, transcript)?;
-    expect_line(&verdict_line(alloc, &verdict)?)
+    expect_line(name, &verdict_line(alloc, &verdict)?)
 }
 
 // Runs the script in so many threads some times.
 fn rounds_are_legal<R: Threads + Wait + Sync + AllocGlobal>(
     rt: &R,
+    name: &str,
     text: &[u8],
     workers: usize,
 ) -> Result<(), Fail> {
     let script = script_of(rt.alloc(), text)?;
     for _round in 0..ROUNDS {
         let transcript = transcript_of(rt, text, workers, &TestGate::Nobody)?;
-        expect_legal(rt.alloc(), &script, &transcript)?;
+        expect_legal(rt.alloc(), name, &script, &transcript)?;
     }
     Ok(())
 }
 
-/// Runs the script in 1, 2, 4 and 16 threads.
+/// The script of some pieces, which are parted by `|`: `TIMES>LINES` stands for as many times the lines.
+pub fn unfolded(alloc: Global, pieces: &[u8]) -> Result<Vec<u8>, Fail> {
+    let mut script = Vec::new(alloc);
+    for piece in pieces.split(|byte| *byte == b'|') {
+        let (times, lines) = parts(piece)?;
+        let times = str::from_utf8(times)?.parse()?;
+        script = repeated(alloc, &script, lines, times)?;
+    }
+    Ok(script)
+}
+
+/// Runs the script of some pieces in 1, 2, 4 and 16 threads.
 pub fn runs_are_legal<R: Threads + Wait + Sync + AllocGlobal>(
     rt: &R,
-    text: &[u8],
+    name: &str,
+    pieces: &[u8],
 ) -> Result<(), Fail> {
+    let script = unfolded(rt.alloc(), pieces)?;
     for workers in WORKERS {
-        rounds_are_legal(rt, text, workers)?;
+        rounds_are_legal(rt, name, &script, workers)?;
     }
     Ok(())
 }

@@ -1,22 +1,7 @@
 //! Runs of scripts with losses, with servers that are away, with calls given up and with races. The operator makes its
 //! lines in their order, each whenever its thread comes to it.
 use crate::runs::runs_are_legal;
-use std::alloc::Global;
-use std::str;
 use std::test::Fail;
-use text_tables::faults::parts;
-use text_tables::scripts::repeated;
-
-// The script of some pieces, which are parted by `|`: `TIMES>LINES` stands for as many times the lines.
-fn unfolded(alloc: Global, pieces: &[u8]) -> Result<Vec<u8>, Fail> {
-    let mut script = Vec::new(alloc);
-    for piece in pieces.split(|byte| *byte == b'|') {
-        let (times, lines) = parts(piece)?;
-        let times = str::from_utf8(times)?.parse()?;
-        script = repeated(alloc, &script, lines, times)?;
-    }
-    Ok(script)
-}
 
 // Puts, writes, reads and rebuilds of two objects, while servers are emptied. Client 3 has no call, so the operator's
 // lines on it do nothing: they let time pass.
@@ -75,11 +60,6 @@ wipe 0
 end
 ";
 
-#[test]
-fn losses(rt: HostRuntime) -> Result<(), Fail> {
-    runs_are_legal(&rt, &unfolded(rt.alloc(), LOSSES)?)
-}
-
 // The same with servers that are made away and present again. One of them stays away.
 const AWAY: &[u8] = b"\
 1>clay 2
@@ -129,11 +109,6 @@ down 3
 |1>drain
 end
 ";
-
-#[test]
-fn servers_away(rt: HostRuntime) -> Result<(), Fail> {
-    runs_are_legal(&rt, &unfolded(rt.alloc(), AWAY)?)
-}
 
 // Calls that are given up, and two that are left by their clients. Client 4 has no call.
 const GIVEN_UP: &[u8] = b"\
@@ -185,11 +160,6 @@ reap c 4
 end
 ";
 
-#[test]
-fn calls_given_up(rt: HostRuntime) -> Result<(), Fail> {
-    runs_are_legal(&rt, &unfolded(rt.alloc(), GIVEN_UP)?)
-}
-
 // Writes of four clients to one object, which a fifth replaces and deletes.
 const RACES: &[u8] = b"\
 1>clay 1
@@ -223,6 +193,9 @@ end
 ";
 
 #[test]
-fn races(rt: HostRuntime) -> Result<(), Fail> {
-    runs_are_legal(&rt, &unfolded(rt.alloc(), RACES)?)
+fn scripts_run_legally(rt: HostRuntime) -> Result<(), Fail> {
+    runs_are_legal(&rt, "losses", LOSSES)?;
+    runs_are_legal(&rt, "servers away", AWAY)?;
+    runs_are_legal(&rt, "calls given up", GIVEN_UP)?;
+    runs_are_legal(&rt, "races", RACES)
 }

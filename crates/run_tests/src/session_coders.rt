@@ -31,14 +31,9 @@ fn asked_by<R: Threads + Sync + AllocGlobal>(
 }
 
 #[test]
-fn a_put_asks_the_coder(rt: HostRuntime) -> Result<(), Fail> {
+fn a_put_and_a_heal_ask_the_coder(rt: HostRuntime) -> Result<(), Fail> {
     let of_a_put = asked_by(&rt, PUT)?;
     assert!(rt; of_a_put.encodes() >= 1);
-    Ok(())
-}
-
-#[test]
-fn a_heal_asks_the_coder(rt: HostRuntime) -> Result<(), Fail> {
     let of_a_heal = asked_by(&rt, HEAL)?;
     assert!(rt; of_a_heal.recovers() >= 1);
     assert!(rt; of_a_heal.rebuilds() >= 1);

@@ -5,7 +5,7 @@ use frame_session::SessionStatus;
 use std::test::Fail;
 use std::thread::Threads;
 use text_tables::counting::Counting;
-use text_tables::faults::rows_of;
+use text_tables::faults::{failed, rows_of};
 
 // How a session of these words ends whose input is a byte that is no frame, and which writes nothing.
 fn ends_as<R: Threads + Sync + AllocGlobal>(
@@ -17,7 +17,7 @@ fn ends_as<R: Threads + Sync + AllocGlobal>(
     if ran.status == status && ran.written.is_empty() {
         return Ok(());
     }
-    Err(Fail::from("another end"))
+    Err(failed(words))
 }
 
 // Each of some words, parted by `;`, ends so; there are so many.
@@ -36,17 +36,10 @@ fn all_end_as<R: Threads + Sync + AllocGlobal>(
 const REFUSED: &[u8] = b"\
 2 2 1;2 2 1 64 64;2 2 1 0;2 2 1 1048577;1 2 1 64;2 1 1 64;2 9 1 64;2 2 0 64;2 2 01 64;2 2 1 +64;2 2 1 x;2 2 1 4294967297";
 
-#[test]
-fn words_are_refused(rt: HostRuntime) -> Result<(), Fail> {
-    all_end_as(&rt, 12, REFUSED, SessionStatus::Usage)
-}
+const TAKEN: &[u8] = b"2 2 1 64;2 2 1 1;7 2 1 1048576";
 
 #[test]
-fn words_are_taken(rt: HostRuntime) -> Result<(), Fail> {
-    all_end_as(
-        &rt,
-        3,
-        b"2 2 1 64;2 2 1 1;7 2 1 1048576",
-        SessionStatus::TornFrame,
-    )
+fn words_are_refused_and_taken(rt: HostRuntime) -> Result<(), Fail> {
+    all_end_as(&rt, 12, REFUSED, SessionStatus::Usage)?;
+    all_end_as(&rt, 3, TAKEN, SessionStatus::TornFrame)
 }

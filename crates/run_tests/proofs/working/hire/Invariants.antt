@@ -1,7 +1,7 @@
 use Rattle.std.proofs.Common.{◌≡◌, ℕ, ◌+◌, ◌≤◌, All, IfSome, slice_get, vec_len, vec_capacity}
 use Rattle.turn_lock.specs.TurnState.{new_turn}
 use Rattle.run_tests.specs.Workers.{IsReady}
-use Rattle.run_tests.proofs.workers.hire.Given as goal
+use Rattle.run_tests.proofs.working.hire.Given as goal
 
 abbrev pub invariant-loop-turn : goal.invariant-loop-turn
 invariant-loop-turn l = record {

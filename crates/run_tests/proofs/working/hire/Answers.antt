@@ -4,7 +4,7 @@ use Rattle.turn_lock.specs.TurnState.{TurnState, new_turn}
 use Rattle.run_tests.specs.declared.workers.Worker.{Worker}
 use Rattle.run_tests.specs.Workers.{IsReady}
 use Rattle.run_tests.proofs.Hiring.{without_last, at_last, new_is_ready}
-use Rattle.run_tests.proofs.workers.hire.Goals as goal
+use Rattle.run_tests.proofs.working.hire.Goals as goal
 
 pub loop-turn-preserved : goal.loop-turn-preserved
 loop-turn-preserved c =

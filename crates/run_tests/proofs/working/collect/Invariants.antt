@@ -1,6 +1,6 @@
 use Rattle.std.proofs.Common.{◌≡◌, false, All}
 use Rattle.run_tests.specs.Workers.{IsReady}
-use Rattle.run_tests.proofs.workers.collect.Given as goal
+use Rattle.run_tests.proofs.working.collect.Given as goal
 
 abbrev pub invariant-loop-worker : goal.invariant-loop-worker
 invariant-loop-worker g l = record {

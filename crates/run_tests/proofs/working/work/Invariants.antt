@@ -1,6 +1,6 @@
 use Rattle.std.proofs.Common.{◌≡◌, ◌+◌}
 use Rattle.run_tests.specs.Workers.{IsReady, line_count}
-use Rattle.run_tests.proofs.workers.work.Given as goal
+use Rattle.run_tests.proofs.working.work.Given as goal
 
 abbrev pub invariant-loop-value : goal.invariant-loop-value
 invariant-loop-value g l = record {
