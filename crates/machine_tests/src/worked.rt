@@ -15,17 +15,21 @@ use script_text::read_script;
 use std::alloc::Global;
 use std::test::Fail;
 use std::thread::Threads;
-use store_map::Script;
+use store_map::{Script, Transcript};
 use store_world::play;
 use text_tables::faults::{failed, joined, parts, rows_of};
 use text_tables::lines::{add_line, unfolded};
 use transcript_text::write_transcript;
 
+fn text_of(alloc: Global, transcript: &Transcript) -> Result<Vec<u8>, Fail> {
+    Ok(write_transcript(alloc, transcript)?)
+}
+
 fn played<R: Threads + Sync + AllocGlobal>(rt: &R, script: Script) -> Result<Vec<u8>, Fail>
     requires { IsValid script }
 {
     let transcript = play(rt, rt.alloc(), &LaneCoder, script)?;
-    Ok(write_transcript(rt.alloc(), &transcript)?)
+    text_of(rt.alloc(), &transcript)
 }
 
 // What a run of the script shows.

@@ -2,10 +2,13 @@
 use crate::gates::TestGate;
 use crate::runs::{WORKERS, transcript_by};
 use clay_par::ParCoder;
+use std::alloc::Global;
 use std::sync::Wait;
 use std::test::Fail;
 use std::thread::Threads;
+use store_map::Transcript;
 use text_tables::counting::Counting;
+use text_tables::faults::same;
 use transcript_text::write_transcript;
 
 const PUT_THEN_GET: &[u8] = b"\
@@ -32,16 +35,26 @@ T 3 0 1 0
 end
 ";
 
-// Runs the script in so many threads, and fails where its transcript is another or its coder wasn't asked.
+fn has_text(alloc: Global, transcript: &Transcript) -> Result<(), Fail> {
+    same(&write_transcript(alloc, transcript)?, TRANSCRIPT)
+}
+
+// Fails where the script's transcript by so many threads is another.
+fn shows_it<R: Threads + Wait + Sync + AllocGlobal>(
+    rt: &R,
+    workers: usize,
+    coder: &Counting<ParCoder>,
+) -> Result<(), Fail> {
+    let transcript = transcript_by(rt, PUT_THEN_GET, workers, coder, &TestGate::Nobody)?;
+    has_text(rt.alloc(), &transcript)
+}
+
+// Runs the script in so many threads, and fails where its coder wasn't asked.
 fn run_alone<R: Threads + Wait + Sync + AllocGlobal>(rt: &R, workers: usize) -> Result<(), Fail> {
     let coder = Counting::new(ParCoder);
-    let transcript = transcript_by(rt, PUT_THEN_GET, workers, &coder, &TestGate::Nobody)?;
+    shows_it(rt, workers, &coder)?;
     if coder.encodes() == 0 {
         return Err(Fail::from("no stripe was encoded"));
-    }
-    let text = write_transcript(rt.alloc(), &transcript)?;
-    if text.as_slice() != TRANSCRIPT {
-        return Err(Fail::from("another transcript"));
     }
     Ok(())
 }

@@ -1,7 +1,7 @@
 //! Whether a gate is told of each kind of step while the lock of its place is held: nobody else is told of a step at that
 //! place meanwhile.
 use crate::gates::TestGate;
-use crate::runs::{transcript_of, unfolded};
+use crate::runs::{run_through, unfolded};
 use std::sync::Wait;
 use std::sync::atomic::{AtomicBool, AtomicU64, Ordering};
 use std::test::Fail;
@@ -122,7 +122,7 @@ fn are_told_inside<R: Threads + Wait + Sync + AllocGlobal>(
     at_servers: bool,
 ) -> Result<(), Fail> {
     let gate = PlaceGate::new(actor, at_servers);
-    let _transcript = transcript_of(rt, script, 2, &TestGate::Places(&gate))?;
+    run_through(rt, script, 2, &TestGate::Places(&gate))?;
     let watched = gate.watched.load(Ordering::SeqCst);
     if gate.have_met.load(Ordering::SeqCst) || watched < HELD {
         return Err(Fail::new(format_args!("{name}, servers {at_servers}: {watched} steps")));

@@ -49,8 +49,8 @@ pub fn transcript_by<R: Threads + Wait + Sync + AllocGlobal>(
     Ok(run(rt, rt.alloc(), script, workers, coder, gate)?)
 }
 
-/// The transcript of a run of the script in so many threads.
-pub fn transcript_of<R: Threads + Wait + Sync + AllocGlobal>(
+// The transcript of a run of the script in so many threads.
+fn transcript_of<R: Threads + Wait + Sync + AllocGlobal>(
     rt: &R,
     text: &[u8],
     workers: usize,
@@ -90,6 +90,29 @@ pub fn expect_legal(
     expect_line(name, &verdict_line(alloc, &verdict)?)
 }
 
+/// Runs the script in so many threads, and drops its transcript.
+pub fn run_through<R: Threads + Wait + Sync + AllocGlobal>(
+    rt: &R,
+    text: &[u8],
+    workers: usize,
+    gate: &TestGate<'_>,
+) -> Result<(), Fail> {
+    let _transcript = transcript_of(rt, text, workers, gate)?;
+    Ok(())
+}
+
+// What a round owns is dropped in a function of its own: each `?` of one that owns a transcript drops all of its lists.
+fn round_is_legal<R: Threads + Wait + Sync + AllocGlobal>(
+    rt: &R,
+    name: &str,
+    text: &[u8],
+    script: &Script,
+    workers: usize,
+) -> Result<(), Fail> {
+    let transcript = transcript_of(rt, text, workers, &TestGate::Nobody)?;
+    expect_legal(rt.alloc(), name, script, &transcript)
+}
+
 // Runs the script in so many threads some times.
 fn rounds_are_legal<R: Threads + Wait + Sync + AllocGlobal>(
     rt: &R,
@@ -99,8 +122,7 @@ fn rounds_are_legal<R: Threads + Wait + Sync + AllocGlobal>(
 ) -> Result<(), Fail> {
     let script = script_of(rt.alloc(), text)?;
     for _round in 0..ROUNDS {
-        let transcript = transcript_of(rt, text, workers, &TestGate::Nobody)?;
-        expect_legal(rt.alloc(), name, &script, &transcript)?;
+        round_is_legal(rt, name, text, &script, workers)?;
     }
     Ok(())
 }

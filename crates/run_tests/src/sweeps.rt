@@ -1,6 +1,6 @@
 //! Whether the sweeper sweeps while clients have steps.
 use crate::gates::TestGate;
-use crate::runs::{transcript_of, unfolded};
+use crate::runs::{run_through, unfolded};
 use std::sync::Wait;
 use std::sync::atomic::{AtomicBool, AtomicU64, Ordering};
 use std::test::Fail;
@@ -82,7 +82,7 @@ fn sweeps_beside<R: Threads + Wait + Sync + AllocGlobal>(
     workers: usize,
 ) -> Result<(), Fail> {
     let gate = SweepGate::new(false);
-    let _transcript = transcript_of(rt, script, workers, &TestGate::Sweeps(&gate))?;
+    run_through(rt, script, workers, &TestGate::Sweeps(&gate))?;
     let firsts = gate.firsts.load(Ordering::SeqCst);
     let sweeps = gate.sweeps.load(Ordering::SeqCst);
     if firsts < 8 || sweeps < firsts {
@@ -118,7 +118,7 @@ end
 // go on.
 fn sweeps_on<R: Threads + Wait + Sync + AllocGlobal>(rt: &R, workers: usize) -> Result<(), Fail> {
     let gate = SweepGate::new(true);
-    let _transcript = transcript_of(rt, STAT_AND_PUT, workers, &TestGate::Sweeps(&gate))?;
+    run_through(rt, STAT_AND_PUT, workers, &TestGate::Sweeps(&gate))?;
     if gate.gave_up.load(Ordering::SeqCst) {
         return Err(Fail::new(format_args!("{workers} workers: the sweeper ended before client 1")));
     }
