@@ -28,7 +28,7 @@ use Rattle.clay_aloof.specs.Solved.{Fits, HoldsSubchunks}
 use Rattle.clay_aloof.specs.Rebuilt.{IsEntry}
 use Rattle.clay_aloof.specs.Recovered.{is_gone, is_gone_node, chunk_in, HasOthers, IsRecovered}
 use Rattle.aloof_recovery.specs.Recoveries.{IsMissingPlan, AreChunkTables, starts_left, AreChunks, AreHeld, IsPut, ArePut}
-use Rattle.clay_aloof.specs.declared.layers.SolvingPlan.{SolvingPlan}
+use Rattle.clay_aloof.specs.declared.layers.Plan.{Plan}
 use Rattle.clay_aloof.specs.declared.known.Known.{Known}
 use Rattle.clay_aloof.specs.declared.known.Tables.{Tables}
 use Rattle.clay_aloof.specs.declared.known.Source.TheVariants.{Shown}
@@ -205,7 +205,7 @@ shown_nodes g known view is =
 -- ---- the chunks of the erased nodes
 
 -- a codeword that has the others is one that the plan solves
-others_fit : (a : AloofShape) (missing : List Bool) (bytes known : List ℕ) (plan : SolvingPlan) (word : List (List ℕ)) → IsMissingPlan a missing plan → AreHeld a missing bytes known → HasOthers a missing bytes word
+others_fit : (a : AloofShape) (missing : List Bool) (bytes known : List ℕ) (plan : Plan) (word : List (List ℕ)) → IsMissingPlan a missing plan → AreHeld a missing bytes known → HasOthers a missing bytes word
     → Fits (grid_of a) plan known (coupled_value a word)
 others_fit a missing bytes known plan word whole held has = record {
   bytes = coupled_byte a word has.codeword.bytes;
@@ -227,7 +227,7 @@ others_fit a missing bytes known plan word whole held has = record {
 }
 
 -- a chunk that is written
-pub is_missing_chunk : (a : AloofShape) (missing : List Bool) (bytes known : List ℕ) (plan : SolvingPlan) (c : ℕ) (out : List ℕ) → IsMissingPlan a missing plan → AreHeld a missing bytes known → c < all_chunks a
+pub is_missing_chunk : (a : AloofShape) (missing : List Bool) (bytes known : List ℕ) (plan : Plan) (c : ℕ) (out : List ℕ) → IsMissingPlan a missing plan → AreHeld a missing bytes known → c < all_chunks a
     → length out ≡ chunk_length (grid_of a) → HoldsSubchunks (grid_of a) plan known (node_of a c) (layer_count (grid_of a)) out
     → (word : List (List ℕ)) → HasOthers a missing bytes word → out ≡ get_or word c []
 is_missing_chunk a missing bytes known plan c out whole held hc long holds word has =

@@ -11,12 +11,12 @@ use Rattle.clay_aloof.specs.Tables.{AreTables, AreOwnPlaces}
 use Rattle.clay_aloof.specs.Solved.{IsPlan, IsIn, AreSolved}
 use Rattle.clay_aloof.specs.Rebuilt.{IsEntry}
 use Rattle.clay_aloof.specs.Recovered.{is_gone, is_gone_node, chunk_in, HasOthers}
-use Rattle.clay_aloof.specs.declared.layers.SolvingPlan.{SolvingPlan}
+use Rattle.clay_aloof.specs.declared.layers.Plan.{Plan}
 use Rattle.clay_aloof.specs.declared.known.Tables.{Tables}
 use Rattle.aloof_recovery.specs.declared.recovery.Recovery.{Recovery}
 
 -- the nodes of the missing chunks are erased, and all layers are solved
-pub record IsMissingPlan (a : AloofShape) (missing : List Bool) (plan : SolvingPlan) : Type 0 where
+pub record IsMissingPlan (a : AloofShape) (missing : List Bool) (plan : Plan) : Type 0 where
   pub aloof : IsAloof a
   pub sound : IsPlan (grid_of a) plan
   pub few : length plan.points.items ≤ a.parity_count

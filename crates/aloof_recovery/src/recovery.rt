@@ -11,8 +11,8 @@ ghost use Rattle.clay_aloof.specs.Recovered.{is_gone, is_gone_node, AreFew, IsRe
 ghost use Rattle.aloof_recovery.specs.Recoveries.{IsMissingPlan, AreChunkTables, starts_left, AreChunks, IsRecovery, others_in, others_around, StandAround, told_by, AreSolvedBy, IsPut};
 
 use clay_aloof::{
-    AloofGeometry, Known, SolvingPlan, Source, Tables, chunk_of, chunks_of_nodes, couple_chunk,
-    numbers, solved_values, whole_plan,
+    AloofGeometry, Known, Plan, Source, Tables, chunk_of, chunks_of_nodes, couple_chunk, numbers,
+    solved_values, whole_plan,
 };
 use clay_kernels::zeros;
 use lane_repair::ChunkView;
@@ -47,11 +47,7 @@ fn missing_nodes(alloc: Global, g: AloofGeometry, missing: &[bool]) -> Result<Ve
 }
 
 // The plan of the missing chunks' nodes.
-fn missing_plan(
-    alloc: Global,
-    g: AloofGeometry,
-    missing: &[bool],
-) -> Result<SolvingPlan, AllocError>
+fn missing_plan(alloc: Global, g: AloofGeometry, missing: &[bool]) -> Result<Plan, AllocError>
     requires { AreFew g missing.now }
     ensures { IfOk result (IsMissingPlan g missing.now) }
 {
@@ -124,7 +120,7 @@ pub(crate) struct Recovery<'a> {
     /// Where each chunk that isn't missing begins.
     pub(crate) starts: &'a [Option<usize>],
     /// The plan of the missing chunks' nodes.
-    pub(crate) plan: &'a SolvingPlan,
+    pub(crate) plan: &'a Plan,
     pub(crate) tables: &'a Tables,
 }
 
@@ -224,7 +220,7 @@ fn recover_by(
     alloc: Global,
     g: AloofGeometry,
     missing: &[bool],
-    plan: &SolvingPlan,
+    plan: &Plan,
     chunks: &mut [u8],
 ) -> Result<(), AllocError>
     requires missing { length missing.now ≡ all_chunks g }

@@ -18,7 +18,7 @@ use Rattle.clay_aloof.specs.Code.{coupled_value}
 use Rattle.clay_aloof.specs.Pieces.{PiecesFit}
 use Rattle.clay_aloof.specs.Solved.{Fits, IsUncoupled}
 use Rattle.clay_aloof.specs.Rebuilt.{is_missing_node, IsGiven, IsRepairPlan, ArePut, IsLostPiece, HoldsLost, IsLostChunk}
-use Rattle.clay_aloof.specs.declared.layers.SolvingPlan.{SolvingPlan}
+use Rattle.clay_aloof.specs.declared.layers.Plan.{Plan}
 use Rattle.clay_aloof.proofs.Layer.{some_rows}
 use Rattle.clay_aloof.proofs.Nodes.{node_inside, node_real, coupled_real}
 use Rattle.clay_aloof.proofs.Parts.{known_value, word_fits, column_known}
@@ -50,12 +50,12 @@ module _ (a : AloofShape) (lost : ℕ) (aloof : IsAloof a) (within : lost < all_
       ∙ get_or-set_same (layer_of (grid_of a) n) (node_of a lost / rows_of a) (node_of a lost % rows_of a) 0 (subst (λ t. node_of a lost / rows_of a < t) (sym layer.long) column)
 
   -- and is solved
-  pub partner_erased : (have : List (Option (List ℕ))) (plan : SolvingPlan) → IsRepairPlan a lost have plan → other < node_count (grid_of a) → get_or plan.erased.items other false ≡ true
+  pub partner_erased : (have : List (Option (List ℕ))) (plan : Plan) → IsRepairPlan a lost have plan → other < node_count (grid_of a) → get_or plan.erased.items other false ≡ true
   partner_erased have plan repair below =
       repair.erased_are other below ∙ ap (λ b. b || is_missing_node a have other) (eq-eqb (other / rows_of a) (node_of a lost / rows_of a) partner_column)
 
 -- the piece of an unpaired vertex is its uncoupled value
-pub lost_alone : (a : AloofShape) (lost : ℕ) (have : List (Option (List ℕ))) (plan : SolvingPlan) (known : List ℕ) (n other p : ℕ) (own out : List ℕ) → IsRepairPlan a lost have plan → ArePut a lost have (all_chunks a) known
+pub lost_alone : (a : AloofShape) (lost : ℕ) (have : List (Option (List ℕ))) (plan : Plan) (known : List ℕ) (n other p : ℕ) (own out : List ℕ) → IsRepairPlan a lost have plan → ArePut a lost have (all_chunks a) known
     → ArePartners (grid_of a) (node_of a lost) n other p → other ≡ node_of a lost → IsUncoupled (grid_of a) plan known other p own → out ≡ own → IsLostPiece a lost have n out
 lost_alone a lost have plan known n other p own out repair put pair same uncoupled copied = record {
   at = λ word parts b hb.
@@ -66,7 +66,7 @@ lost_alone a lost have plan known n other p own out repair put pair same uncoupl
 }
 
 -- that of a paired one is crossed from its partner's values
-pub lost_crossed : (a : AloofShape) (lost : ℕ) (have : List (Option (List ℕ))) (plan : SolvingPlan) (known : List ℕ) (n other p : ℕ) (own out : List ℕ) → IsRepairPlan a lost have plan → ArePut a lost have (all_chunks a) known
+pub lost_crossed : (a : AloofShape) (lost : ℕ) (have : List (Option (List ℕ))) (plan : Plan) (known : List ℕ) (n other p : ℕ) (own out : List ℕ) → IsRepairPlan a lost have plan → ArePut a lost have (all_chunks a) known
     → PiecesFit a lost have → lost < all_chunks a → ArePartners (grid_of a) (node_of a lost) n other p → other < node_count (grid_of a) → p < layer_count (grid_of a) → other ≢ node_of a lost
     → IsUncoupled (grid_of a) plan known other p own
     → ((b : ℕ) → b < a.width → get_or out b 0 ≡ quotient (bit_xor (get_or own b 0) (get_or known ((other * layer_count (grid_of a) + p) * a.width + b) 0)) 2) → IsLostPiece a lost have n out

@@ -12,13 +12,13 @@ use Rattle.clay_aloof.specs.Shape.{AloofShape, all_chunks, grid_of, stripe_bytes
 use Rattle.clay_aloof.specs.Code.{Codes}
 use Rattle.clay_aloof.specs.Solved.{HoldsSubchunks}
 use Rattle.clay_aloof.specs.Encoded.{IsParityPlan, IsSpread, HoldsParity, chunks_in, chunks_of}
-use Rattle.clay_aloof.specs.declared.layers.SolvingPlan.{SolvingPlan}
+use Rattle.clay_aloof.specs.declared.layers.Plan.{Plan}
 use Rattle.clay_aloof.proofs.Word.{IsMade, encoded}
 
-pub no_parity : (a : AloofShape) (plan : SolvingPlan) (known parity : List ℕ) → HoldsParity a plan known 0 parity
+pub no_parity : (a : AloofShape) (plan : Plan) (known parity : List ℕ) → HoldsParity a plan known 0 parity
 no_parity a plan known parity = record { at = λ c fits e n b he hn hb. absurd (omega arith) }
 
-pub parity_more : (a : AloofShape) (plan : SolvingPlan) (known : List ℕ) (e k : ℕ) (parity out : List ℕ) → e * chunk_length (grid_of a) ≤ length parity → length out ≡ chunk_length (grid_of a)
+pub parity_more : (a : AloofShape) (plan : Plan) (known : List ℕ) (e k : ℕ) (parity out : List ℕ) → e * chunk_length (grid_of a) ≤ length parity → length out ≡ chunk_length (grid_of a)
     → HoldsParity a plan known e parity → HoldsSubchunks (grid_of a) plan known (node_of a (a.data_count + e)) (layer_count (grid_of a)) out
     → HoldsParity a plan known (e + 1) (put_mid (e * chunk_length (grid_of a)) k parity out)
 parity_more a plan known e k parity out start long before new = record {
@@ -51,7 +51,7 @@ cut_len count len bytes c long h =
 chunks_count : (count len : ℕ) (bytes : List ℕ) → length (chunks_in count len bytes) ≡ count
 chunks_count count len bytes = length-map-range_with_len (λ v. slice_range bytes (v * len) (v * len + len)) 0 count
 
-cut_holds : (a : AloofShape) (plan : SolvingPlan) (known parity : List ℕ) (e : ℕ) → HoldsParity a plan known a.parity_count parity → e < a.parity_count
+cut_holds : (a : AloofShape) (plan : Plan) (known parity : List ℕ) (e : ℕ) → HoldsParity a plan known a.parity_count parity → e < a.parity_count
     → HoldsSubchunks (grid_of a) plan known (node_of a (a.data_count + e)) (layer_count (grid_of a)) (slice_range parity (e * chunk_length (grid_of a)) (e * chunk_length (grid_of a) + chunk_length (grid_of a)))
 cut_holds a plan known parity e holds h = record {
   at = λ c fits n b hn hb.
@@ -61,7 +61,7 @@ cut_holds a plan known parity e holds h = record {
       ∙ holds.at c fits e n b h hn hb;
 }
 
-made : (a : AloofShape) (stripe : List ℕ) (plan : SolvingPlan) (known parity : List ℕ) → length stripe ≡ stripe_bytes a → length parity ≡ a.parity_count * chunk_length (grid_of a)
+made : (a : AloofShape) (stripe : List ℕ) (plan : Plan) (known parity : List ℕ) → length stripe ≡ stripe_bytes a → length parity ≡ a.parity_count * chunk_length (grid_of a)
     → HoldsParity a plan known a.parity_count parity → (c : ℕ) → c < all_chunks a → IsMade a stripe plan known c (get_or (chunks_of a stripe parity) c [])
 made a stripe plan known parity whole long holds c h =
     let len : ℕ = chunk_length (grid_of a) in
@@ -94,7 +94,7 @@ made a stripe plan known parity whole long holds c h =
     ]
 
 -- the stripe's chunks and the parity chunks are a codeword
-pub parity_codes : (a : AloofShape) (stripe : List ℕ) (plan : SolvingPlan) (known parity : List ℕ) → IsParityPlan a plan → IsSpread a stripe known → length stripe ≡ stripe_bytes a
+pub parity_codes : (a : AloofShape) (stripe : List ℕ) (plan : Plan) (known parity : List ℕ) → IsParityPlan a plan → IsSpread a stripe known → length stripe ≡ stripe_bytes a
     → ((p : ℕ) → get_or stripe p 0 < 2 ^ 8) → length parity ≡ a.parity_count * chunk_length (grid_of a) → HoldsParity a plan known a.parity_count parity
     → Codes a stripe (chunks_of a stripe parity)
 parity_codes a stripe plan known parity is spread whole bytes long holds =

@@ -20,7 +20,7 @@ use Rattle.clay_aloof.specs.Pieces.{PiecesFit, FitsPieces}
 use Rattle.clay_aloof.specs.Solved.{IsIn, Fits}
 use Rattle.clay_aloof.specs.Rebuilt.{is_unknown, IsGiven, IsRepairPlan, kept_layers, ArePut}
 use Rattle.clay_aloof.specs.Ordered.{AreKept}
-use Rattle.clay_aloof.specs.declared.layers.SolvingPlan.{SolvingPlan}
+use Rattle.clay_aloof.specs.declared.layers.Plan.{Plan}
 use Rattle.clay_aloof.proofs.Layer.{some_rows}
 use Rattle.clay_aloof.proofs.Nodes.{node_back, coupled_real, coupled_virtual, coupled_byte}
 use Rattle.clay_aloof.proofs.Kept.{kept_from, kept_each, kept_rising}
@@ -155,7 +155,7 @@ known_value a lost have known word aloof put fits i n b hi hn given there hb =
 pub fewer_sums : (q t m k : ℕ) (c : ℕ → List ℕ → ℕ) → k ≤ m → HasZeroSums q t m c → HasZeroSums q t k c
 fewer_sums q t m k c few sums z layer j hj = sums z layer j (omega arith)
 
-pub word_fits : (a : AloofShape) (lost : ℕ) (have : List (Option (List ℕ))) (plan : SolvingPlan) (known : List ℕ) (word : List (List ℕ)) → IsRepairPlan a lost have plan → ArePut a lost have (all_chunks a) known
+pub word_fits : (a : AloofShape) (lost : ℕ) (have : List (Option (List ℕ))) (plan : Plan) (known : List ℕ) (word : List (List ℕ)) → IsRepairPlan a lost have plan → ArePut a lost have (all_chunks a) known
     → FitsPieces a lost have word → Fits (grid_of a) plan known (coupled_value a word)
 word_fits a lost have plan known word repair put fits = record {
   bytes = coupled_byte a word fits.codeword.bytes;

@@ -8,7 +8,7 @@ use Rattle.clay_model.specs.Partners.{ArePartners}
 use Rattle.clay_aloof.specs.Shape.{AloofShape, grid_of}
 use Rattle.clay_aloof.specs.Rebuilt.{IsGiven}
 use Rattle.clay_aloof.specs.Solved.{IsPlan, IsIn}
-use Rattle.clay_aloof.specs.declared.layers.SolvingPlan.{SolvingPlan}
+use Rattle.clay_aloof.specs.declared.layers.Plan.{Plan}
 
 -- a few erased nodes, and layers by rising score, with each layer that one of them needs
 pub record AreOrdered (g : Shape) (erased : List Bool) (layers : List ℕ) : Type 0 where
@@ -20,7 +20,7 @@ pub record AreOrdered (g : Shape) (erased : List Bool) (layers : List ℕ) : Typ
   pub partners : (i n other p : ℕ) → get_or erased i false ≡ false → ArePartners g i n other p → p < layer_count g → IsIn layers n → IsIn layers p
 
 -- a plan solves these nodes in these layers
-pub record IsPlanOf (g : Shape) (erased : List Bool) (layers : List ℕ) (plan : SolvingPlan) : Type 0 where
+pub record IsPlanOf (g : Shape) (erased : List Bool) (layers : List ℕ) (plan : Plan) : Type 0 where
   pub sound : IsPlan g plan
   pub erased_are : plan.erased.items ≡ erased
   pub layers_are : plan.layers.items ≡ layers

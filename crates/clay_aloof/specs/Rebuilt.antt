@@ -10,7 +10,7 @@ use Rattle.clay_aloof.specs.Repair.{aloof_layers_of}
 use Rattle.clay_aloof.specs.Pieces.{FitsPieces}
 use Rattle.clay_aloof.specs.Tables.{AreTables}
 use Rattle.clay_aloof.specs.Solved.{IsPlan, IsIn, HasPlaces}
-use Rattle.clay_aloof.specs.declared.layers.SolvingPlan.{SolvingPlan}
+use Rattle.clay_aloof.specs.declared.layers.Plan.{Plan}
 use Rattle.clay_aloof.specs.declared.known.Tables.{Tables}
 
 -- a virtual node
@@ -30,7 +30,7 @@ abbrev pub IsGiven : AloofShape → ℕ → ℕ → Type 0
 IsGiven a lost n = get_or (layer_of (grid_of a) n) (node_of a lost / rows_of a) 0 ≡ node_of a lost % rows_of a
 
 -- the layers that are given are solved, and just these
-pub record IsRepairPlan (a : AloofShape) (lost : ℕ) (have : List (Option (List ℕ))) (plan : SolvingPlan) : Type 0 where
+pub record IsRepairPlan (a : AloofShape) (lost : ℕ) (have : List (Option (List ℕ))) (plan : Plan) : Type 0 where
   pub aloof : IsAloof a
   pub sound : IsPlan (grid_of a) plan
   pub few : length plan.points.items ≤ a.parity_count

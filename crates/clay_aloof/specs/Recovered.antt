@@ -6,7 +6,7 @@ use Rattle.clay_aloof.specs.Shape.{AloofShape, all_chunks, grid_of, is_virtual_n
 use Rattle.clay_aloof.specs.Code.{IsCodeword}
 use Rattle.clay_aloof.specs.Limits.{IsAloof}
 use Rattle.clay_aloof.specs.Solved.{IsPlan, IsIn}
-use Rattle.clay_aloof.specs.declared.layers.SolvingPlan.{SolvingPlan}
+use Rattle.clay_aloof.specs.declared.layers.Plan.{Plan}
 
 -- whether chunk c is missing
 abbrev pub is_gone : List Bool → ℕ → Bool
@@ -36,7 +36,7 @@ pub record IsRecovered (a : AloofShape) (missing : List Bool) (old new : List �
   pub value : (word : List (List ℕ)) → HasOthers a missing old word → (c : ℕ) → c < all_chunks a → chunk_in a new c ≡ get_or word c []
 
 -- these nodes are erased, and all layers are solved
-pub record IsWholePlan (a : AloofShape) (erased : List Bool) (plan : SolvingPlan) : Type 0 where
+pub record IsWholePlan (a : AloofShape) (erased : List Bool) (plan : Plan) : Type 0 where
   pub aloof : IsAloof a
   pub sound : IsPlan (grid_of a) plan
   pub few : length plan.points.items ≤ a.parity_count

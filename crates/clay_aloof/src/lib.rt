@@ -19,5 +19,5 @@ pub use laws::{
     codes_are_filled, codewords_are_unique, fault_law, full_helpers, parts_are_coded,
     worked_codeword,
 };
-pub use layers::{SolvingPlan, solved_values};
+pub use layers::{Plan, solved_values};
 pub use lost::{aloof_layers, chunk_of, chunks_of_nodes, helpers_fit, rebuild, rebuild_into};

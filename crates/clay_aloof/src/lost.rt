@@ -15,7 +15,7 @@ ghost use Rattle.clay_aloof.specs.Rebuilt.{is_missing_node, is_unknown, IsBetwee
 
 use crate::geometry::AloofGeometry;
 use crate::known::{Known, Source, Tables, piece};
-use crate::layers::{SolvingPlan, partner_of, places_of, plan_of, solved_piece, solved_values};
+use crate::layers::{Plan, partner_of, places_of, plan_of, solved_piece, solved_values};
 use clay_grid::Geometry;
 use clay_kernels::{Products, cross, halves, zeros};
 use lane_repair::ChunkView;
@@ -213,7 +213,7 @@ fn repair_plan(
     g: AloofGeometry,
     lost: u32,
     parts: ChunkView<'_>,
-) -> Result<SolvingPlan, AllocError>
+) -> Result<Plan, AllocError>
     requires chunk { lost < all_chunks g }
     requires fit { PiecesFit g lost (pieces_of parts) }
     requires room { HasViewRoom parts }
@@ -305,7 +305,7 @@ fn lost_piece(
     g: AloofGeometry,
     lost: u32,
     parts: ChunkView<'_>,
-    plan: &SolvingPlan,
+    plan: &Plan,
     halves: &Products,
     known: &Known<'_>,
     solved: &[u8],
@@ -340,7 +340,7 @@ fn write_lost(
     g: AloofGeometry,
     lost: u32,
     parts: ChunkView<'_>,
-    plan: &SolvingPlan,
+    plan: &Plan,
     known: &Known<'_>,
     solved: &[u8],
     chunk: &mut [u8],
@@ -369,7 +369,7 @@ fn rebuild_by(
     g: AloofGeometry,
     lost: u32,
     parts: ChunkView<'_>,
-    plan: &SolvingPlan,
+    plan: &Plan,
     chunk: &mut [u8],
 ) -> Result<(), AllocError>
     requires parts { ArePieces g lost (pieces_of parts) }

@@ -1,4 +1,3 @@
-pub mod Refused
 pub mod Laying
 pub mod Taking
 pub mod Recovering

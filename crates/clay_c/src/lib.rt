@@ -2,7 +2,7 @@
 //! nothing where it doesn't end with `DONE`.
 #![tactic(auto)]
 
-ghost use Rattle.std.specs.Prelude.{◌≡◌, ◌≢◌, ◌+◌, ◌<◌, ◌↔◌, MatchOption, IsTrue};
+ghost use Rattle.std.specs.Prelude.{◌≡◌, ◌≢◌, ◌+◌, ◌<◌, ◌↔◌, MatchOption};
 ghost use Rattle.clay_grid.specs.Shape.{shape_of};
 ghost use Rattle.clay_grid.specs.Limits.{IsGeometry};
 ghost use Rattle.clay_grid.specs.Repair.{repair_layers_of};
@@ -61,27 +61,6 @@ fn geometry(k: u32, m: u32, w: u32) -> Option<Geometry>
     ensures { MatchOption result (IsGeometry (shape_of k m w) → ⊥) (λ g. (g ≡ shape_of k m w) × IsGeometry (shape_of k m w)) }
 {
     Geometry::new(k, m, w).ok()
-}
-
-// Whether these are a mark for each chunk, and as many chunks.
-fn chunks_fit(g: Geometry, present: &[u8], chunks: &[u8]) -> bool
-    ensures { IsTrue result ↔ ChunksFit g present.now chunks.now }
-{
-    if present.len() != g.n() as usize {
-        return false;
-    }
-    chunks.len() == g.n() as usize * g.chunk_len() as usize
-}
-
-// Whether these are parts of all but one chunk, and room for that one.
-fn parts_fit(g: Geometry, parts: &[u8], chunk: &[u8]) -> bool
-    ensures { IsTrue result ↔ PartsFit g parts.now chunk.now }
-{
-    let others = g.n() as usize - 1;
-    if parts.len() != others * part_len(g) as usize {
-        return false;
-    }
-    chunk.len() == g.chunk_len() as usize
 }
 
 /// Writes the numbers of the code of `k` data chunks, `m` parity chunks and subchunks of `w` bytes, or ends with `BAD_GEOMETRY`.
@@ -198,7 +177,7 @@ pub extern "C" fn clay_recover(
     let Some(g) = geometry(k, m, w) else {
         return BAD_GEOMETRY;
     };
-    if !chunks_fit(g, present, chunks) {
+    if present.len() != g.n() as usize || chunks.len() != g.n() as usize * g.chunk_len() as usize {
         return BAD_LENGTH;
     }
     if missing_count(present) > g.m() as usize {
@@ -237,7 +216,8 @@ pub extern "C" fn clay_rebuild(
     if lost >= g.n() {
         return BAD_CHUNK;
     }
-    if !parts_fit(g, parts, chunk) {
+    let others = g.n() as usize - 1;
+    if parts.len() != others * part_len(g) as usize || chunk.len() != g.chunk_len() as usize {
         return BAD_LENGTH;
     }
     match write_rebuilt(alloc, g, lost, parts, chunk) {

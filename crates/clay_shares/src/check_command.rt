@@ -1,10 +1,8 @@
 //! The command `check`: the shares of a folder opened and judged.
-ghost use Rattle.std.specs.Prelude.{◌≡◌, length, vec_len, IfOk};
-ghost use Rattle.clay_aloof.specs.Shape.{all_chunks};
+ghost use Rattle.std.specs.Prelude.{◌≡◌, vec_len, IfOk};
 
-use crate::folder::{Folder, chunk_bytes, fit_count, open_folder};
+use crate::folder::{Folder, first_shares, open_folder, tell_missing};
 use crate::share_file::ShareFile;
-use crate::tell::{tell_missing, tell_share};
 use crc64::Crc64;
 use share_files::ShareFault;
 use share_format::ShareHeader;
@@ -27,7 +25,7 @@ fn tell_faults<R: Eprint>(
             continue;
         }
         if let Some(Some(fault)) = verdicts.get(number) {
-            tell_share(rt, stem, number, *fault);
+            let _said = eprintln!(rt; "clay_shares: {stem}.{number:02}.clay: {fault}");
         }
     }
 }
@@ -48,7 +46,9 @@ fn tell_strays<R: Eprint>(rt: &R, stem: &str, count: u32, sources: &[ShareFile<R
     let mut are_there = false;
     for (number, source) in sources.iter().enumerate() {
         if number >= count as usize && !source.is_missing() {
-            tell_share(rt, stem, number, "the code has no share of this number");
+            let _said = eprintln!(rt;
+                "clay_shares: {stem}.{number:02}.clay: the code has no share of this number"
+            );
             are_there = true;
         }
     }
@@ -57,43 +57,10 @@ fn tell_strays<R: Eprint>(rt: &R, stem: &str, count: u32, sources: &[ShareFile<R
 
 // How many bytes the shares have that are there, but for their headers and tables.
 fn bytes_of<R: Eprint>(header: &ShareHeader, sources: &[ShareFile<R>]) -> u64 {
-    let each = chunk_bytes(header);
-    let mut all = 0u64;
-    for source in sources {
-        if !source.is_missing() {
-            all = all.saturating_add(each);
-        }
-    }
-    all
-}
-
-// Judges all shares, and says what is wrong with them.
-fn judge_shares<R: Eprint>(
-    rt: &R,
-    alloc: Global,
-    crc: &Crc64,
-    header: &ShareHeader,
-    folder: &str,
-    stem: &str,
-    strays: bool,
-    sources: &mut [ShareFile<R>],
-) -> Result<ExitCode, AllocError>
-    requires { length sources.old ≡ all_chunks header.now.shape }
-{
-    let mut verdicts = no_verdicts(alloc, header.geometry().n())?;
-    tell_missing(rt, stem, sources, None);
-    let exit = serve_check(
-        rt,
-        alloc,
-        crc,
-        header,
-        folder,
-        strays,
-        sources,
-        &mut verdicts,
-    );
-    tell_faults(rt, stem, sources, &verdicts);
-    Ok(exit)
+    let chunk = u64::from(header.geometry().chunk_len());
+    let each = header.stripe_count().saturating_mul(chunk);
+    let there = sources.iter().filter(|source| !source.is_missing()).count();
+    each.saturating_mul(there as u64)
 }
 
 // Judges the shares of a folder.
@@ -103,24 +70,32 @@ fn check_shares<R: Eprint>(
     progress: &Progress,
     crc: &Crc64,
     folder: &str,
-    shares: &mut Folder<R>,
+    shares: Folder<R>,
 ) -> Result<ExitCode, AllocError> {
-    let header = shares.header;
-    let stem = shares.stem.as_str();
+    let Folder {
+        stem,
+        header,
+        sources,
+        ..
+    } = shares;
     let count = header.geometry().n();
-    let strays = tell_strays(rt, stem, count, &shares.sources);
-    fit_count(alloc, &mut shares.sources, count)?;
-    progress.begin(bytes_of(&header, &shares.sources));
-    judge_shares(
+    let strays = tell_strays(rt, stem.as_str(), count, &sources);
+    let mut sources = first_shares(alloc, sources, count)?;
+    let mut verdicts = no_verdicts(alloc, count)?;
+    tell_missing(rt, stem.as_str(), &sources, None);
+    progress.begin(bytes_of(&header, &sources));
+    let exit = serve_check(
         rt,
         alloc,
         crc,
         &header,
         folder,
-        stem,
         strays,
-        &mut shares.sources,
-    )
+        &mut sources,
+        &mut verdicts,
+    );
+    tell_faults(rt, stem.as_str(), &sources, &verdicts);
+    Ok(exit)
 }
 
 /// Judges the shares of a folder, each to its end.
@@ -130,11 +105,11 @@ pub(crate) fn run_check<'a, R: Files<File = File> + AllocGlobal + Clone + Drop +
     crc: &Crc64,
     folder: &str,
 ) -> ExitCode {
-    let mut shares = match open_folder(rt, crc, Some(progress), folder, false) {
+    let shares = match open_folder(rt, crc, Some(progress), folder) {
         Ok(shares) => shares,
         Err(exit) => return exit,
     };
-    match check_shares(rt, rt.alloc(), progress, crc, folder, &mut shares) {
+    match check_shares(rt, rt.alloc(), progress, crc, folder, shares) {
         Ok(exit) => exit,
         Err(AllocError) => ends_short(rt, folder),
     }

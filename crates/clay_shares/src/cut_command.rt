@@ -3,13 +3,13 @@ ghost use Rattle.std.specs.Prelude.{◌≡◌, [], All, vec_len, IfOk};
 
 use crate::code::code_for;
 use crate::disk::StdPlaces;
-use crate::names::{list_shares, share_path};
+use crate::folder::standing_share;
 use crate::words::CodeAsked;
 use clay_aloof::AloofGeometry;
 use clay_bytes::StdSource;
 use file_bytes::StdFile;
 use share_run::{Progress, ShareStatus, ToldFile, ends, ends_short, exit_with, fails, serve_cut};
-use std::alloc::{AllocError, Global};
+use std::alloc::Global;
 use std::fs::{self, File};
 use std::io::{self, Eprint, ErrorKind};
 use std::process::ExitCode;
@@ -20,21 +20,6 @@ fn name_in(path: &str) -> &str {
     match path.rsplit_once('/') {
         Some((_, name)) => name,
         None => path,
-    }
-}
-
-// The file in which the share of a number is written. Says why, where it can't be made.
-fn open_share<'a, R: Files<File = File> + Eprint>(
-    rt: &R,
-    alloc: Global,
-    places: &mut StdPlaces<'a, R>,
-    folder: &str,
-    name: &str,
-    number: usize,
-) -> Result<ToldFile<'a, R>, ExitCode> {
-    match share_path(alloc, folder, name, number) {
-        Ok(path) => places.open_beside(alloc, path.as_str(), None),
-        Err(AllocError) => Err(ends_short(rt, folder)),
     }
 }
 
@@ -51,12 +36,16 @@ fn open_shares<'a, R: Files<File = File> + Eprint>(
     ensures empty { IfOk result (λ sinks. All (λ sink. sink.put ≡ []) sinks.items) }
 {
     let wanted = shares as usize;
-    let Ok(mut sinks) = Vec::with_capacity(alloc, wanted) else {
-        return Err(ends_short(rt, folder));
-    };
+    let mut sinks = Vec::new(alloc);
     'sinks: while sinks.len() < wanted {
-        let file = open_share(rt, alloc, places, folder, name, sinks.len())?;
-        sinks.push_reserved(StdFile::new(file));
+        let share = sinks.len();
+        let Ok(path) = format!(in alloc; "{folder}/{name}.{share:02}.clay") else {
+            return Err(ends_short(rt, folder));
+        };
+        let file = places.open_beside(alloc, path.as_str(), None)?;
+        let Ok(()) = sinks.push(StdFile::new(file)) else {
+            return Err(ends_short(rt, folder));
+        };
     }
     Ok(sinks)
 }
@@ -68,54 +57,31 @@ fn make_folder<R: Files>(rt: &R, folder: &str) -> io::Result<()> {
     }
 }
 
-// Makes a folder, where it isn't there. Says why, where a share stands in it or it can't be made.
-fn ready_folder<R: Files<File = File> + AllocGlobal + Clone + Drop + Eprint>(
-    rt: &R,
-    folder: &str,
-) -> Result<(), ExitCode> {
-    if let Err(error) = make_folder(rt, folder) {
-        return Err(fails(rt, ShareStatus::WriteFault, folder, &error));
-    }
-    let listed = match list_shares(rt, folder) {
-        Ok(listed) => listed,
-        Err(error) => return Err(fails(rt, ShareStatus::WriteFault, folder, &error)),
-    };
-    match listed.first() {
-        Some(share) => {
-            let why = "a share stands in the folder already";
-            Err(ends(rt, ShareStatus::WriteFault, share, why))
-        }
-        None => Ok(()),
-    }
-}
-
-// Cuts an open file into shares beside their places, and puts them there.
-fn cut_beside<'a, R: Files<File = File> + Eprint>(
-    rt: &R,
-    alloc: Global,
-    geometry: AloofGeometry,
-    path: &str,
-    source: &mut StdSource<ToldFile<R>>,
-    folder: &str,
-    places: &mut StdPlaces<'a, R>,
-) -> ExitCode {
-    match open_shares(rt, alloc, places, folder, name_in(path), geometry.n()) {
-        Ok(mut sinks) => serve_cut(rt, alloc, geometry, path, source, &mut sinks, places),
-        Err(exit) => exit,
-    }
-}
-
 // Cuts an open file into shares in a folder in which no share stands.
 fn cut_open<R: Files<File = File> + Eprint>(
     rt: &R,
     alloc: Global,
     geometry: AloofGeometry,
     path: &str,
-    source: &mut StdSource<ToldFile<R>>,
+    file: ToldFile<R>,
     folder: &str,
 ) -> ExitCode {
     let mut places = StdPlaces::new(rt, alloc);
-    let exit = cut_beside(rt, alloc, geometry, path, source, folder, &mut places);
+    let exit = match open_shares(rt, alloc, &mut places, folder, name_in(path), geometry.n()) {
+        Ok(mut sinks) => {
+            let mut source = StdSource::new(file);
+            serve_cut(
+                rt,
+                alloc,
+                geometry,
+                path,
+                &mut source,
+                &mut sinks,
+                &mut places,
+            )
+        }
+        Err(exit) => exit,
+    };
     places.clear();
     exit
 }
@@ -125,12 +91,19 @@ fn cut_into<R: Files<File = File> + AllocGlobal + Clone + Drop + Eprint>(
     rt: &R,
     geometry: AloofGeometry,
     path: &str,
-    source: &mut StdSource<ToldFile<R>>,
+    file: ToldFile<R>,
     folder: &str,
 ) -> ExitCode {
-    match ready_folder(rt, folder) {
-        Ok(()) => cut_open(rt, rt.alloc(), geometry, path, source, folder),
-        Err(exit) => exit,
+    if let Err(error) = make_folder(rt, folder) {
+        return fails(rt, ShareStatus::WriteFault, folder, &error);
+    }
+    match standing_share(rt, folder) {
+        Ok(None) => cut_open(rt, rt.alloc(), geometry, path, file, folder),
+        Ok(Some(share)) => {
+            let why = "a share stands in the folder already";
+            ends(rt, ShareStatus::WriteFault, share.as_str(), why)
+        }
+        Err(error) => fails(rt, ShareStatus::WriteFault, folder, &error),
     }
 }
 
@@ -148,8 +121,7 @@ fn open_and_cut<'a, R: Files<File = File> + AllocGlobal + Clone + Drop + Eprint>
     match fs::open(rt, path) {
         Ok(file) => {
             let told = ToldFile::new(rt, name, file, Some(progress));
-            let mut source = StdSource::new(told);
-            cut_into(rt, geometry, path, &mut source, folder)
+            cut_into(rt, geometry, path, told, folder)
         }
         Err(error) => fails(rt, ShareStatus::ReadFault, path, &error),
     }

@@ -9,10 +9,8 @@ mod disk;
 mod folder;
 mod join_command;
 mod mend_command;
-mod names;
 mod program;
 mod share_file;
-mod tell;
 mod words;
 
 use std::io::IsTerminal;

@@ -1,19 +1,17 @@
 //! The command `mend`: the shares of a folder opened, and a lost one made anew from parts of the others, or from whole chunks.
-ghost use Rattle.std.specs.Prelude.{◌≡◌, [], length, IfOk};
+ghost use Rattle.std.specs.Prelude.{◌≡◌, length, IfOk};
 ghost use Rattle.clay_aloof.specs.Shape.{all_chunks};
 ghost use Rattle.share_mends.specs.Asked.{AreHelpers};
 
 use crate::disk::StdPlaces;
-use crate::folder::{Folder, chunk_bytes, fit_count, open_folder};
-use crate::names::share_path;
-use crate::share_file::{ShareFile, Taken};
-use crate::tell::{tell_lack, tell_missing, tell_share};
+use crate::folder::{Folder, first_shares, open_fit, tell_missing};
+use crate::share_file::ShareFile;
 use crc64::Crc64;
 use file_bytes::StdFile;
 use share_format::ShareHeader;
 use share_run::{
-    MendStop, Progress, ShareStatus, ToldFile, choose_helpers, ends, ends_short, header_of_share,
-    serve_mend, serve_rebuild,
+    MendStop, Progress, ShareStatus, choose_helpers, ends, ends_short, header_of_share, serve_mend,
+    serve_rebuild,
 };
 use std::alloc::{AllocError, Global};
 use std::fs::File;
@@ -32,20 +30,22 @@ fn good_marks<R: Eprint>(alloc: Global, sources: &[ShareFile<R>]) -> Result<Vec<
     Ok(marks)
 }
 
-// Says what was taken of a share.
-fn tell_reads<R: Eprint>(rt: &R, stem: &str, number: usize, taken: Taken) {
-    let Taken { reads, bytes } = taken;
-    tell_share(
-        rt,
-        stem,
-        number,
-        format_args!("{bytes} bytes in {reads} reads"),
-    );
-}
-
-// Says how much was taken in all, beside what a Reed-Solomon code would take.
-fn tell_all<R: Eprint>(rt: &R, header: &ShareHeader, all: u64) {
-    let k = header.geometry().k();
+// Says what was taken of each share, beside what a Reed-Solomon code would take.
+fn tell_taken<R: Eprint>(rt: &R, stem: &str, header: &ShareHeader, sources: &[ShareFile<R>]) {
+    let mut all = 0u64;
+    for (number, source) in sources.iter().enumerate() {
+        let taken = source.taken();
+        if taken.reads > 0 {
+            let bytes = taken.bytes;
+            let reads = taken.reads;
+            let _said = eprintln!(rt;
+                "clay_shares: {stem}.{number:02}.clay: {bytes} bytes in {reads} reads"
+            );
+            all = all.saturating_add(bytes);
+        }
+    }
+    let geometry = header.geometry();
+    let k = geometry.k();
     let each = chunk_bytes(header);
     let other = each.saturating_mul(u64::from(k));
     let _said = eprintln!(rt;
@@ -53,191 +53,148 @@ fn tell_all<R: Eprint>(rt: &R, header: &ShareHeader, all: u64) {
     );
 }
 
-// Says what was taken of each share and in all.
-fn tell_taken<R: Eprint>(rt: &R, stem: &str, header: &ShareHeader, sources: &[ShareFile<R>]) {
-    let mut all = 0u64;
-    for (number, source) in sources.iter().enumerate() {
-        let taken = source.taken();
-        if taken.reads > 0 {
-            tell_reads(rt, stem, number, taken);
-            all = all.saturating_add(taken.bytes);
-        }
-    }
-    tell_all(rt, header, all);
+// The bytes of a share's chunks.
+fn chunk_bytes(header: &ShareHeader) -> u64 {
+    let chunk = u64::from(header.geometry().chunk_len());
+    header.stripe_count().saturating_mul(chunk)
 }
 
 // Says why parts don't do.
 fn tell_stop<R: Eprint>(rt: &R, stem: &str, stop: MendStop) {
-    match stop {
+    let _said = match stop {
         MendStop::RottenHelper(part) => {
-            tell_lack(rt, stem, part.share as usize, "part", part.stripe);
+            let share = part.share;
+            let stripe = part.stripe;
+            eprintln!(rt;
+                "clay_shares: {stem}.{share:02}.clay: its part of stripe {stripe} is rotten or missing"
+            )
         }
-        MendStop::UnreadHelper => {
-            let why = "a read of a share failed";
-            let _said = ends(rt, ShareStatus::ReadFault, stem, why);
-        }
-    }
+        MendStop::UnreadHelper => eprintln!(rt; "clay_shares: {stem}: a read of a share failed"),
+    };
 }
 
-// What a mend works with: the names of the shares, and the path of the one that is made.
-#[derive(Drop)]
-struct Mend<'a, R: Eprint> {
-    rt: &'a R,
+// Mends a share from the marked helpers' parts. None where one of them stops it.
+fn by_parts<'a, R: Files<File = File> + Eprint>(
+    rt: &R,
     alloc: Global,
     progress: &'a Progress,
-    crc: &'a Crc64,
-    stem: &'a str,
-    path: &'a str,
-}
-
-// Opens the file beside the share's place, and begins to count its bytes.
-fn open_sink<'a, R: Files<File = File> + Eprint>(
-    mend: &Mend<'a, R>,
+    crc: &Crc64,
+    stem: &str,
     header: &ShareHeader,
-    places: &mut StdPlaces<'a, R>,
-) -> Result<StdFile<ToldFile<'a, R>>, ExitCode>
-    ensures { IfOk result (λ sink. sink.put ≡ []) }
-{
-    let file = places.open_beside(mend.alloc, mend.path, Some(mend.progress))?;
-    mend.progress.begin(chunk_bytes(header));
-    Ok(StdFile::new(file))
-}
-
-// Mends a share from the marked helpers' parts into an open file. None where one of them stops it.
-fn parts_into<'a, R: Files<File = File> + Eprint>(
-    mend: &Mend<'a, R>,
-    header: &ShareHeader,
+    path: &str,
     sources: &mut [ShareFile<R>],
     helpers: &[bool],
-    sink: &mut StdFile<ToldFile<'a, R>>,
     places: &mut StdPlaces<'a, R>,
 ) -> Option<ExitCode>
     requires sources { length sources.old ≡ all_chunks header.now.shape }
     requires helpers { AreHelpers header.now.shape header.now.share helpers.now }
-    requires empty { sink.old.put ≡ [] }
 {
+    let file = match places.open_beside(alloc, path, Some(progress)) {
+        Ok(file) => file,
+        Err(exit) => return Some(exit),
+    };
+    progress.begin(chunk_bytes(header));
+    let mut sink = StdFile::new(file);
     match serve_mend(
-        mend.rt, mend.alloc, mend.crc, header, mend.path, sources, helpers, sink, places,
+        rt, alloc, crc, header, path, sources, helpers, &mut sink, places,
     ) {
         Ok(exit) => {
-            tell_taken(mend.rt, mend.stem, header, sources);
+            tell_taken(rt, stem, header, sources);
             Some(exit)
         }
         Err(stop) => {
-            tell_stop(mend.rt, mend.stem, stop);
+            tell_stop(rt, stem, stop);
             places.clear();
             None
         }
     }
 }
 
-// Mends a share from the marked helpers' parts. None where one of them stops it.
-fn by_parts<'a, R: Files<File = File> + Eprint>(
-    mend: &Mend<'a, R>,
+// Mends a share from whole blocks of any `K` of those that are there.
+fn by_blocks<'a, R: Files<File = File> + Eprint>(
+    rt: &R,
+    alloc: Global,
+    progress: &'a Progress,
+    crc: &Crc64,
+    stem: &str,
     header: &ShareHeader,
+    path: &str,
     sources: &mut [ShareFile<R>],
-    helpers: &[bool],
-    places: &mut StdPlaces<'a, R>,
-) -> Option<ExitCode>
-    requires sources { length sources.old ≡ all_chunks header.now.shape }
-    requires helpers { AreHelpers header.now.shape header.now.share helpers.now }
-{
-    match open_sink(mend, header, places) {
-        Ok(mut sink) => parts_into(mend, header, sources, helpers, &mut sink, places),
-        Err(exit) => Some(exit),
-    }
-}
-
-// Mends a share from whole blocks of any `K` of those that are there into an open file.
-fn blocks_into<'a, R: Files<File = File> + Eprint>(
-    mend: &Mend<'a, R>,
-    header: &ShareHeader,
-    sources: &mut [ShareFile<R>],
-    sink: &mut StdFile<ToldFile<'a, R>>,
     places: &mut StdPlaces<'a, R>,
 ) -> ExitCode
     requires sources { length sources.old ≡ all_chunks header.now.shape }
-    requires empty { sink.old.put ≡ [] }
 {
-    tell_missing(mend.rt, mend.stem, sources, Some(header.share()));
-    let exit = serve_rebuild(
-        mend.rt, mend.alloc, mend.crc, header, mend.path, sources, sink, places,
-    );
-    tell_taken(mend.rt, mend.stem, header, sources);
+    let file = match places.open_beside(alloc, path, Some(progress)) {
+        Ok(file) => file,
+        Err(exit) => return exit,
+    };
+    tell_missing(rt, stem, sources, Some(header.share()));
+    progress.begin(chunk_bytes(header));
+    let mut sink = StdFile::new(file);
+    let exit = serve_rebuild(rt, alloc, crc, header, path, sources, &mut sink, places);
+    tell_taken(rt, stem, header, sources);
     exit
 }
 
-// Mends a share from whole blocks of any `K` of those that are there.
-fn by_blocks<'a, R: Files<File = File> + Eprint>(
-    mend: &Mend<'a, R>,
+// Mends a share of those in a folder.
+fn mend_share<'a, R: Files<File = File> + Eprint>(
+    rt: &R,
+    alloc: Global,
+    progress: &'a Progress,
+    crc: &Crc64,
+    shares: Folder<R>,
     header: &ShareHeader,
-    sources: &mut [ShareFile<R>],
+    path: &str,
     places: &mut StdPlaces<'a, R>,
-) -> ExitCode
-    requires sources { length sources.old ≡ all_chunks header.now.shape }
-{
-    match open_sink(mend, header, places) {
-        Ok(mut sink) => blocks_into(mend, header, sources, &mut sink, places),
-        Err(exit) => exit,
-    }
-}
-
-// Mends a share by parts of helpers among the good ones, where there are some that do, and else by whole blocks.
-fn mend_marked<'a, R: Files<File = File> + Eprint>(
-    mend: &Mend<'a, R>,
-    header: &ShareHeader,
-    sources: &mut [ShareFile<R>],
-    good: &[bool],
-    places: &mut StdPlaces<'a, R>,
-) -> Result<ExitCode, AllocError>
-    requires sources { length sources.old ≡ all_chunks header.now.shape }
-    requires good { length good.now ≡ all_chunks header.now.shape }
-{
+) -> Result<ExitCode, AllocError> {
+    let Folder {
+        stem: name,
+        sources,
+        ..
+    } = shares;
+    let stem = name.as_str();
     // a header's limits are known once its stripes are counted
     let _stripes = header.stripe_count();
     let geometry = header.geometry();
-    if let Some(helpers) = choose_helpers(mend.alloc, geometry, header.share(), good)? {
-        if let Some(exit) = by_parts(mend, header, sources, &helpers, places) {
+    let mut sources = first_shares(alloc, sources, geometry.n())?;
+    let good = good_marks(alloc, &sources)?;
+    if let Some(helpers) = choose_helpers(alloc, geometry, header.share(), &good)? {
+        if let Some(exit) = by_parts(
+            rt,
+            alloc,
+            progress,
+            crc,
+            stem,
+            header,
+            path,
+            &mut sources,
+            &helpers,
+            places,
+        ) {
             return Ok(exit);
         }
     }
-    Ok(by_blocks(mend, header, sources, places))
+    Ok(by_blocks(
+        rt,
+        alloc,
+        progress,
+        crc,
+        stem,
+        header,
+        path,
+        &mut sources,
+        places,
+    ))
 }
 
-// Mends a share of these.
-fn mend_of<'a, R: Files<File = File> + Eprint>(
-    mend: &Mend<'a, R>,
-    header: &ShareHeader,
-    sources: &mut [ShareFile<R>],
-    places: &mut StdPlaces<'a, R>,
-) -> Result<ExitCode, AllocError>
-    requires { length sources.old ≡ all_chunks header.now.shape }
-{
-    let good = good_marks(mend.alloc, sources)?;
-    mend_marked(mend, header, sources, &good, places)
-}
-
-// Mends a share of those of a folder, beside its place.
-fn mend_beside<'a, R: Files<File = File> + Eprint>(
-    mend: &Mend<'a, R>,
-    header: &ShareHeader,
-    sources: &mut Vec<ShareFile<R>>,
-) -> Result<ExitCode, AllocError> {
-    fit_count(mend.alloc, sources, header.geometry().n())?;
-    let mut places = StdPlaces::new(mend.rt, mend.alloc);
-    let exit = mend_of(mend, header, sources, &mut places);
-    places.clear();
-    exit
-}
-
-// Mends the share of a number of those in a folder.
-fn mend_numbered<R: Files<File = File> + Eprint>(
-    rt: &R,
+// Mends a share of the number among those in a folder, beside its place.
+fn mend_numbered<'a, R: Files<File = File> + Eprint>(
+    rt: &'a R,
     alloc: Global,
-    progress: &Progress,
+    progress: &'a Progress,
     crc: &Crc64,
     folder: &str,
-    shares: &mut Folder<R>,
+    shares: Folder<R>,
     number: u32,
 ) -> Result<ExitCode, AllocError> {
     let told = shares.header;
@@ -245,17 +202,21 @@ fn mend_numbered<R: Files<File = File> + Eprint>(
         let why = "the code has no share of this number";
         return Ok(ends(rt, ShareStatus::Usage, folder, why));
     }
-    let stem = shares.stem.as_str();
-    let path = share_path(alloc, folder, stem, number as usize)?;
-    let mend = Mend {
+    let header = header_of_share(&told, number);
+    let path = format!(in alloc; "{folder}/{}.{number:02}.clay", shares.stem)?;
+    let mut places = StdPlaces::new(rt, alloc);
+    let exit = mend_share(
         rt,
         alloc,
         progress,
         crc,
-        stem,
-        path: path.as_str(),
-    };
-    mend_beside(&mend, &header_of_share(&told, number), &mut shares.sources)
+        shares,
+        &header,
+        path.as_str(),
+        &mut places,
+    );
+    places.clear();
+    exit
 }
 
 /// Makes the share of a number in a folder anew.
@@ -266,11 +227,11 @@ pub(crate) fn run_mend<'a, R: Files<File = File> + AllocGlobal + Clone + Drop + 
     folder: &str,
     number: u32,
 ) -> ExitCode {
-    let mut shares = match open_folder(rt, crc, None, folder, true) {
+    let shares = match open_fit(rt, crc, folder) {
         Ok(shares) => shares,
         Err(exit) => return exit,
     };
-    match mend_numbered(rt, rt.alloc(), progress, crc, folder, &mut shares, number) {
+    match mend_numbered(rt, rt.alloc(), progress, crc, folder, shares, number) {
         Ok(exit) => exit,
         Err(AllocError) => ends_short(rt, folder),
     }

@@ -42,10 +42,11 @@ pub(crate) struct ShareFile<'a, R: Eprint> {
 }
 
 impl<'a, R: Eprint> ShareFile<'a, R> {
-    fn new(file: Option<StdFile<ToldFile<'a, R>>>, is_told: bool) -> Self {
+    /// No file. Whether it was said already why there is none.
+    pub(crate) fn missing(is_told: bool) -> Self {
         ShareFile {
             is_told,
-            file,
+            file: None,
             given: PlaceLog::new(),
             ends: PositionLog::new(),
             failed: PositionLog::new(),
@@ -53,13 +54,15 @@ impl<'a, R: Eprint> ShareFile<'a, R> {
         }
     }
 
-    /// No file. Whether it was said already why there is none.
-    pub(crate) fn missing(is_told: bool) -> Self {
-        ShareFile::new(None, is_told)
-    }
-
     pub(crate) fn of(file: ToldFile<'a, R>) -> Self {
-        ShareFile::new(Some(StdFile::new(file)), false)
+        ShareFile {
+            is_told: false,
+            file: Some(StdFile::new(file)),
+            given: PlaceLog::new(),
+            ends: PositionLog::new(),
+            failed: PositionLog::new(),
+            taken: Taken::nothing(),
+        }
     }
 
     pub(crate) fn is_missing(&self) -> bool {
@@ -71,9 +74,11 @@ impl<'a, R: Eprint> ShareFile<'a, R> {
         self.is_told
     }
 
-    /// Closes the file, where it was said why: it counts as missing.
+    /// Closes it: it counts as missing. Where it is there, it was said why.
     pub(crate) fn close(&mut self) {
-        self.is_told = true;
+        if self.file.is_some() {
+            self.is_told = true;
+        }
         self.file = None;
     }
 

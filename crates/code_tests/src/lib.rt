@@ -1,5 +1,4 @@
-//! The crates of the code as they are called, compared with values from outside; and files cut into shares, joined and mended, with
-//! shares missing and rotten, and with each call failing in turn.
+//! The code's crates compared with values from outside; files cut into shares, joined and mended, with shares lost and calls failing.
 #![tactic(auto)]
 
 #[cfg(test)]
