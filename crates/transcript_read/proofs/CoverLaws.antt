@@ -17,8 +17,8 @@ use Rattle.transcript_read.specs.Order.{Follows, place_of}
 use Rattle.transcript_read.specs.Reader.{empty, with_line, IsTaken}
 use Rattle.transcript_read.specs.WellFormed.{IsWellFormed}
 use Rattle.transcript_read.specs.declared.line.Line.{Line}
-use Rattle.transcript_read.specs.declared.place.Place.{Place}
-use Rattle.transcript_read.specs.declared.place.Place.TheVariants as at
+use Rattle.transcript_read.specs.declared.place.TranscriptPlace.{TranscriptPlace}
+use Rattle.transcript_read.specs.declared.place.TranscriptPlace.TheVariants as at
 use Rattle.transcript_read.specs.declared.reader.Reader.{Reader}
 use Rattle.transcript_read.proofs.OrderLaws.{few_lines}
 use Rattle.transcript_read.proofs.OrderedListLaws.{lines_within}
@@ -49,7 +49,7 @@ split_feed (b ∷ bs) = elim (cases_eq b 10) [
 ]
 
 -- the last line was read, or it was not
-has_ended : (p : Place) → (p ≡ at.End) ⊎ (p ≢ at.End)
+has_ended : (p : TranscriptPlace) → (p ≡ at.End) ⊎ (p ≢ at.End)
 has_ended at.Start = inr (λ e. cc e)
 has_ended (at.History a) = inr (λ e. cc e)
 has_ended (at.Refused a) = inr (λ e. cc e)

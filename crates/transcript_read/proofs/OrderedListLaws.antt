@@ -15,8 +15,8 @@ use Rattle.transcript_read.specs.Order.{servers_at, place_of, IsBefore}
 use Rattle.transcript_read.specs.WellFormed.{AreInOrder, place_after, IsWellFormed, lines_of}
 use Rattle.transcript_read.specs.declared.line.Line.{Line}
 use Rattle.transcript_read.specs.declared.line.Line.TheVariants.{History, Refused, Repair, Unanswered, Object, Takes, Server, End}
-use Rattle.transcript_read.specs.declared.place.Place.{Place}
-use Rattle.transcript_read.specs.declared.place.Place.TheVariants as at
+use Rattle.transcript_read.specs.declared.place.TranscriptPlace.{TranscriptPlace}
+use Rattle.transcript_read.specs.declared.place.TranscriptPlace.TheVariants as at
 use Rattle.transcript_read.proofs.OrderLaws.{few_lines, whole_text}
 
 no_pairs : {X : Type 0} (R : X → X → Type 0) → AllPairs R []
@@ -27,15 +27,15 @@ lines_within t = subst (λ (text : List ℕ). length (lines_of t) ≤ length tex
 
 -- ---- lines before and behind
 
-first_part : (n : ℕ) (p : Place) (xs ys : List Line) → AreInOrder n p (xs ++ ys) → AreInOrder n p xs
+first_part : (n : ℕ) (p : TranscriptPlace) (xs ys : List Line) → AreInOrder n p (xs ++ ys) → AreInOrder n p xs
 first_part n p [] ys order = tt
 first_part n p (x ∷ xs) ys order = (order.0, order.1, first_part n (place_of x) xs ys order.2)
 
-second_part : (n : ℕ) (p : Place) (xs ys : List Line) → AreInOrder n p (xs ++ ys) → AreInOrder n (place_after p xs) ys
+second_part : (n : ℕ) (p : TranscriptPlace) (xs ys : List Line) → AreInOrder n p (xs ++ ys) → AreInOrder n (place_after p xs) ys
 second_part n p [] ys order = order
 second_part n p (x ∷ xs) ys order = second_part n (place_of x) xs ys order.2
 
-after_both : (p : Place) (xs ys : List Line) → place_after p (xs ++ ys) ≡ place_after (place_after p xs) ys
+after_both : (p : TranscriptPlace) (xs ys : List Line) → place_after p (xs ++ ys) ≡ place_after (place_after p xs) ys
 after_both p [] ys = refl
 after_both p (x ∷ xs) ys = after_both (place_of x) xs ys
 
@@ -64,14 +64,14 @@ all_points_rise n (line ∷ lines) order =
 -- ---- the servers
 
 -- a kind without servers
-kept : {A : Type 0} (f : A → Line) → ((x : A) → servers_at (place_of (f x)) ≡ 0) → (p : Place) (xs : List A) → servers_at p ≡ 0 → servers_at (place_after p (map f xs)) ≡ 0
+kept : {A : Type 0} (f : A → Line) → ((x : A) → servers_at (place_of (f x)) ≡ 0) → (p : TranscriptPlace) (xs : List A) → servers_at p ≡ 0 → servers_at (place_after p (map f xs)) ≡ 0
 kept f none p [] e = e
 kept f none p (x ∷ xs) e = kept f none (place_of (f x)) xs (none x)
 
-kept_both : (p : Place) (xs ys : List Line) → servers_at (place_after p xs) ≡ 0 → ((q : Place) → servers_at q ≡ 0 → servers_at (place_after q ys) ≡ 0) → servers_at (place_after p (xs ++ ys)) ≡ 0
+kept_both : (p : TranscriptPlace) (xs ys : List Line) → servers_at (place_after p xs) ≡ 0 → ((q : TranscriptPlace) → servers_at q ≡ 0 → servers_at (place_after q ys) ≡ 0) → servers_at (place_after p (xs ++ ys)) ≡ 0
 kept_both p xs ys e step = ap servers_at (after_both p xs ys) ∙ step (place_after p xs) e
 
-servers_rise : (n : ℕ) (p : Place) (k : ℕ) (lines : List TLine) → servers_at p ≡ k → AreInOrder n p (map Server lines ++ End ∷ [])
+servers_rise : (n : ℕ) (p : TranscriptPlace) (k : ℕ) (lines : List TLine) → servers_at p ≡ k → AreInOrder n p (map Server lines ++ End ∷ [])
     → (map (λ line. line.server) lines ≡ range_with_len k (length lines)) × (k + length lines ≡ n)
 servers_rise n p k [] e order = (refl, (let none : k + 0 ≡ k = omega arith in none ∙ sym e ∙ order.1.1))
 servers_rise n p k (line ∷ lines) e order =

@@ -16,8 +16,8 @@ use Rattle.transcript_read.specs.WellFormed.{AreInOrder, place_after, IsWellForm
 use Rattle.transcript_read.specs.Forms.{IsLine}
 use Rattle.transcript_read.specs.Reader.{empty, IsTaken}
 use Rattle.transcript_read.specs.declared.line.Line.{Line}
-use Rattle.transcript_read.specs.declared.place.Place.{Place}
-use Rattle.transcript_read.specs.declared.place.Place.TheVariants as at
+use Rattle.transcript_read.specs.declared.place.TranscriptPlace.{TranscriptPlace}
+use Rattle.transcript_read.specs.declared.place.TranscriptPlace.TheVariants as at
 use Rattle.transcript_read.specs.declared.reader.Reader.{Reader}
 use Rattle.transcript_read.proofs.OrderLaws.{so_far, IsUpTo, up_to_more, so_far_more, in_order_more, place_after_more, text_more, few_lines, whole_text, unended_rank}
 
@@ -101,11 +101,11 @@ line_refused servers bytes r rest text behind count f so unended next lacks none
 
 -- the line `end` was read
 pub read_form : (servers : ℕ) (bytes : List ℕ) (r : Reader) (rest : List ℕ) (count : ℕ) → IsReadTo servers bytes r rest count → r.place ≡ at.End → IsWellFormed servers r.transcript
-read_form servers bytes r rest count so end = let Q : Place → Type 0 = λ p. AreInOrder servers at.Start (so_far p r.transcript) in subst Q end so.in_order
+read_form servers bytes r rest count so end = let Q : TranscriptPlace → Type 0 = λ p. AreInOrder servers at.Start (so_far p r.transcript) in subst Q end so.in_order
 
 pub read_text : (servers : ℕ) (bytes : List ℕ) (r : Reader) (rest : List ℕ) (count : ℕ) → IsReadTo servers bytes r rest count → r.place ≡ at.End → bytes ≡ text_of r.transcript ++ rest
 read_text servers bytes r rest count so end =
-    so.parted ∙ ap (λ (p : Place). flat_map line_text (so_far p r.transcript) ++ rest) end ∙ ap (λ (t : List ℕ). t ++ rest) (whole_text r.transcript)
+    so.parted ∙ ap (λ (p : TranscriptPlace). flat_map line_text (so_far p r.transcript) ++ rest) end ∙ ap (λ (t : List ℕ). t ++ rest) (whole_text r.transcript)
 
 pub tail_fault : (servers : ℕ) (bytes : List ℕ) (r : Reader) (rest : List ℕ) (count : ℕ) (f : ScriptFault) → IsReadTo servers bytes r rest count → r.place ≡ at.End → rest ≢ []
     → f.line ≡ count + 1 → f.kind ≡ fault.Syntax → OrMemory (IsFault servers bytes) f
@@ -116,6 +116,6 @@ tail_fault servers bytes r rest count f so end some line kind =
       rest = rest;
       some = some;
       parted = read_text servers bytes r rest count so end;
-      number_is = line ∙ ap (λ (n : ℕ). n + 1) (so.counted ∙ ap (λ (p : Place). length (so_far p r.transcript)) end);
+      number_is = line ∙ ap (λ (n : ℕ). n + 1) (so.counted ∙ ap (λ (p : TranscriptPlace). length (so_far p r.transcript)) end);
       kind_is = kind;
     }))

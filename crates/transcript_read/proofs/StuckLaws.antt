@@ -22,13 +22,13 @@ use Rattle.transcript_read.specs.Order.{Follows, place_of, rank}
 use Rattle.transcript_read.specs.WellFormed.{AreInOrder, place_after, IsWellFormed, kinds_of, lines_of}
 use Rattle.transcript_read.specs.declared.line.Line.{Line}
 use Rattle.transcript_read.specs.declared.line.Line.TheVariants.{History, Refused, Repair, Unanswered, Object, Takes, Server, End}
-use Rattle.transcript_read.specs.declared.place.Place.{Place}
-use Rattle.transcript_read.specs.declared.place.Place.TheVariants as at
+use Rattle.transcript_read.specs.declared.place.TranscriptPlace.{TranscriptPlace}
+use Rattle.transcript_read.specs.declared.place.TranscriptPlace.TheVariants as at
 use Rattle.transcript_read.proofs.OrderLaws.{line_whole, follows_rank, place_after_more, whole_text}
 use Rattle.transcript_read.proofs.SameLaws.{same_line, line_feed}
 
 -- no line that may stand behind the place stands at the front of the text
-abbrev pub Stuck : ℕ → Place → List ℕ → Type 0
+abbrev pub Stuck : ℕ → TranscriptPlace → List ℕ → Type 0
 Stuck n p rest = (l : Line) → IsLine n l → Follows n p l → (more : List ℕ) → rest ≢ line_text l ++ more
 
 fed : (l : Line) (more : List ℕ) → line_text l ++ more ≡ line_body l ++ 10 ∷ more
@@ -41,7 +41,7 @@ line_at n l m x y il im e =
     (same_line n l m il im parts.0, parts.1)
 
 -- so are all lines up to where none may follow
-same_stuck : (n : ℕ) (p : Place) (ls ms : List Line) (x y : List ℕ) → AreInOrder n p ls → AreInOrder n p ms → Stuck n (place_after p ls) x → Stuck n (place_after p ms) y
+same_stuck : (n : ℕ) (p : TranscriptPlace) (ls ms : List Line) (x y : List ℕ) → AreInOrder n p ls → AreInOrder n p ms → Stuck n (place_after p ls) x → Stuck n (place_after p ms) y
     → flat_map line_text ls ++ x ≡ flat_map line_text ms ++ y → (ls ≡ ms) × (x ≡ y)
 same_stuck n p [] [] x y ol om sl sm e = (refl, e)
 same_stuck n p [] (m ∷ ms) x y ol om sl sm e =
@@ -71,14 +71,14 @@ last_place : (t : Transcript) → place_after at.Start (lines_of t) ≡ at.End
 last_place t = place_after_more at.Start (kinds_of t) End
 
 stuck_ended : (n : ℕ) (t : Transcript) (rest : List ℕ) → Stuck n (place_after at.Start (lines_of t)) rest
-stuck_ended n t rest l is f more e = let Q : Place → Type 0 = λ p. Follows n p l in nothing_follows n l (subst Q (last_place t) f)
+stuck_ended n t rest l is f more e = let Q : TranscriptPlace → Type 0 = λ p. Follows n p l in nothing_follows n l (subst Q (last_place t) f)
 
-stuck_fault : (n : ℕ) (p : Place) (rest : List ℕ) (kind : FaultKind) → RestFault n p rest kind → Stuck n p rest
+stuck_fault : (n : ℕ) (p : TranscriptPlace) (rest : List ℕ) (kind : FaultKind) → RestFault n p rest kind → Stuck n p rest
 stuck_fault n p rest kind (inl h) l is f more e = h.4 l is f (same_parts 10 h.0 h.1 (line_body l) more h.3 (line_feed n l is) (sym h.2 ∙ e ∙ fed l more)).0
 stuck_fault n p rest kind (inr h) l is f more e =
     let P : List ℕ → Type 0 = Lacks 10 in never_parted 10 (line_body l) more (subst P (e ∙ fed l more) h.0)
 
-same_kind : (n m : ℕ) (p q : Place) (x y : List ℕ) (k k' : FaultKind) → x ≡ y → RestFault n p x k → RestFault m q y k' → k ≡ k'
+same_kind : (n m : ℕ) (p q : TranscriptPlace) (x y : List ℕ) (k k' : FaultKind) → x ≡ y → RestFault n p x k → RestFault m q y k' → k ≡ k'
 same_kind n m p q x y k k' e (inl f) (inl g) = f.5 ∙ sym g.5
 same_kind n m p q x y k k' e (inl f) (inr g) = let P : List ℕ → Type 0 = Lacks 10 in absurd (never_parted 10 f.0 f.1 (subst P (sym e ∙ f.2) g.0))
 same_kind n m p q x y k k' e (inr f) (inl g) = let P : List ℕ → Type 0 = Lacks 10 in absurd (never_parted 10 g.0 g.1 (subst P (e ∙ g.2) f.0))

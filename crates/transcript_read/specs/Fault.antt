@@ -11,16 +11,16 @@ use Rattle.transcript_read.specs.Forms.{IsLine}
 use Rattle.transcript_read.specs.Order.{Follows, rank}
 use Rattle.transcript_read.specs.WellFormed.{AreInOrder, IsWellFormed, lines_of, place_after}
 use Rattle.transcript_read.specs.declared.line.Line.{Line}
-use Rattle.transcript_read.specs.declared.place.Place.{Place}
-use Rattle.transcript_read.specs.declared.place.Place.TheVariants as at
+use Rattle.transcript_read.specs.declared.place.TranscriptPlace.{TranscriptPlace}
+use Rattle.transcript_read.specs.declared.place.TranscriptPlace.TheVariants as at
 
 -- the text, without its line feed, is no line that may stand behind that place
-abbrev pub IsNoLine : ℕ → Place → List ℕ → Type 0
+abbrev pub IsNoLine : ℕ → TranscriptPlace → List ℕ → Type 0
 IsNoLine servers last text =
     (line : Line) → IsLine servers line → Follows servers last line → text ≢ line_body line
 
 -- what is wrong with the text behind a place: its first line, or that no whole line follows
-abbrev pub RestFault : ℕ → Place → List ℕ → FaultKind → Type 0
+abbrev pub RestFault : ℕ → TranscriptPlace → List ℕ → FaultKind → Type 0
 RestFault servers last rest kind =
     ((text : List ℕ) × (more : List ℕ) × (rest ≡ text ++ 10 ∷ more) × Lacks 10 text
     × IsNoLine servers last text × (kind ≡ Syntax))

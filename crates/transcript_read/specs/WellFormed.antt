@@ -4,18 +4,18 @@ use Rattle.store_map.specs.declared.transcript.Transcript.{Transcript}
 use Rattle.transcript_read.specs.Forms.{IsLine}
 use Rattle.transcript_read.specs.declared.line.Line.{Line}
 use Rattle.transcript_read.specs.declared.line.Line.TheVariants.{History, Refused, Repair, Unanswered, Object, Takes, Server, End}
-use Rattle.transcript_read.specs.declared.place.Place.{Place}
-use Rattle.transcript_read.specs.declared.place.Place.TheVariants as at
+use Rattle.transcript_read.specs.declared.place.TranscriptPlace.{TranscriptPlace}
+use Rattle.transcript_read.specs.declared.place.TranscriptPlace.TheVariants as at
 use Rattle.transcript_read.specs.Order.{place_of, Follows}
 
 -- each of these lines has its form, and may stand behind the line before it
-abbrev pub AreInOrder : ℕ → Place → List Line → Type 0
+abbrev pub AreInOrder : ℕ → TranscriptPlace → List Line → Type 0
 AreInOrder servers last [] = ⊤
 AreInOrder servers last (line ∷ lines) =
     IsLine servers line × Follows servers last line × AreInOrder servers (place_of line) lines
 
 -- the place behind these lines
-abbrev pub place_after : Place → List Line → Place
+abbrev pub place_after : TranscriptPlace → List Line → TranscriptPlace
 place_after last [] = last
 place_after last (line ∷ lines) = place_after (place_of line) lines
 
