@@ -27,8 +27,8 @@ use Rattle.line_grammar.specs.Values.{IsNumber, IsContent, IsCall, IsRebuild, Is
 use Rattle.line_grammar.specs.Forms.{IsContentForm, IsCallForm, IsOfForm, IsLineOfForm, HasForm}
 use Rattle.line_grammar.specs.Bounds.{HasNumbers, HasContentNumbers, HasCallNumbers}
 use Rattle.script_text.specs.declared.place.LineKind.TheVariants as kind
-use Rattle.script_text.specs.declared.place.Place.{Place}
-use Rattle.script_text.specs.declared.place.Place.TheVariants as place
+use Rattle.script_text.specs.declared.place.ScriptPlace.{ScriptPlace}
+use Rattle.script_text.specs.declared.place.ScriptPlace.TheVariants as place
 use Rattle.script_text.proofs.StepLaws.{All-front, few_calls, few_rebuilds, short_call, short_data, client_values, repairer_values, limited_client, limited_repairer, known_server, known_servers, small_token, calls_of, calls_of-call, no_tokens, empty_client, empty_repairer, with_call, with_rebuild, clients_with, repairers_with, schedule_with, call_clients, rebuild_repairers}
 
 -- a list is empty or has a last item
@@ -58,8 +58,8 @@ small_some : (o : Option ℕ) (n : ℕ) → o ≡ Some n → IfSome o IsNumber �
 small_some o n e h = subst (λ (x : Option ℕ). IfSome x IsNumber) e h
 
 -- the script so far, before its last line, which has no fault there
-pub record HasBefore (q : Place) (s : Script) : Type 0 where
-  pub p : Place
+pub record HasBefore (q : ScriptPlace) (s : Script) : Type 0 where
+  pub p : ScriptPlace
   pub before : Script
   pub l : Line
   pub begun : IsBegun p before
@@ -151,7 +151,7 @@ before_tries s b =
         repairer_limits = b.valid.names.repairer_limits;
       };
     } in
-    let at' : (p : Place) × IsAt p s' × (next_place p kind.Tries 0 ≡ Some place.Tries) = elim (none_or_some s.size) [
+    let at' : (p : ScriptPlace) × IsAt p s' × (next_place p kind.Tries 0 ≡ Some place.Tries) = elim (none_or_some s.size) [
       | inl none ↦ (place.Code, (bare', none, refl), refl)
       | inr some ↦ (place.Size, (bare', is_some s.size some.0 some.1, refl), refl)
     ] in
@@ -173,7 +173,7 @@ before_tries s b =
 
 -- the place behind the last client, or behind the lines before the blocks
 after_clients : (s : Script) → s.repairers ≡ [] → s.schedule ≡ []
-    → (p : Place) × IsAt p s × (next_place p kind.Client 0 ≡ Some place.Client) × (next_place p kind.Repairer 0 ≡ Some place.Repairer) × (next_place p kind.Schedule 0 ≡ Some place.Schedule)
+    → (p : ScriptPlace) × IsAt p s × (next_place p kind.Client 0 ≡ Some place.Client) × (next_place p kind.Repairer 0 ≡ Some place.Repairer) × (next_place p kind.Schedule 0 ≡ Some place.Schedule)
 after_clients s no_repairers no_schedule = elim (last_item ClientPart s.clients) [
   | inl none ↦
       let bare : IsBare s = record { clients = none; repairers = no_repairers; schedule = no_schedule } in
@@ -192,7 +192,7 @@ after_clients s no_repairers no_schedule = elim (last_item ClientPart s.clients)
 
 -- the place behind the last block, or behind the lines before the blocks
 after_repairers : (s : Script) → s.schedule ≡ []
-    → (p : Place) × IsAt p s × (next_place p kind.Repairer 0 ≡ Some place.Repairer) × (next_place p kind.Schedule 0 ≡ Some place.Schedule)
+    → (p : ScriptPlace) × IsAt p s × (next_place p kind.Repairer 0 ≡ Some place.Repairer) × (next_place p kind.Schedule 0 ≡ Some place.Schedule)
 after_repairers s no_schedule = elim (last_item RepairPart s.repairers) [
   | inl none ↦ let behind = after_clients s none no_schedule in (behind.0, behind.1, behind.3, behind.4)
   | inr more ↦ elim (none_or_some more.1.leave) [
@@ -298,7 +298,7 @@ call_numbers (Stat name) h = tt
 call_numbers (Delete name) h = tt
 
 -- a block without its last call, which waits for it behind the place
-before_call : (p q : Place) (s : Script) (front : List ClientPart) (part : ClientPart) (calls : List Call) (call : Call)
+before_call : (p q : ScriptPlace) (s : Script) (front : List ClientPart) (part : ClientPart) (calls : List Call) (call : Call)
     → s.clients ≡ front ++ part ∷ [] → part.calls ≡ calls ++ call ∷ [] → part.leave ≡ pending p → s.schedule ≡ []
     → IsAt p (clients_with s (front ++ (record { calls = calls; leave = None }) ∷ [])) → next_place p kind.Call 0 ≡ Some q
     → IsScript s → IsValid s → HasBefore q s
@@ -413,7 +413,7 @@ before_repairer s front part parted open' none no_schedule values valid =
     }
 
 -- a block without its last rebuild, which waits for it behind the place
-before_rebuild : (p q : Place) (s : Script) (front : List RepairPart) (part : RepairPart) (calls : List Rebuild) (rebuild : Rebuild)
+before_rebuild : (p q : ScriptPlace) (s : Script) (front : List RepairPart) (part : RepairPart) (calls : List Rebuild) (rebuild : Rebuild)
     → s.repairers ≡ front ++ part ∷ [] → part.calls ≡ calls ++ rebuild ∷ [] → part.leave ≡ pending p → s.schedule ≡ []
     → IsAt p (repairers_with s (front ++ (record { calls = calls; leave = None }) ∷ [])) → next_place p kind.Rebuild 0 ≡ Some q
     → IsScript s → IsValid s → HasBefore q s
@@ -579,7 +579,7 @@ before_schedule s no_schedule values valid =
 -- ---- step limits and the last line
 
 -- behind a step limit: the same script, one place before
-before_leave : (p q : Place) (s : Script) (n : ℕ) → IsBegun p s → next_place p kind.Leave n ≡ Some q → IsNumber n → HasBefore q s
+before_leave : (p q : ScriptPlace) (s : Script) (n : ℕ) → IsBegun p s → next_place p kind.Leave n ≡ Some q → IsNumber n → HasBefore q s
 before_leave p q s n b next small = record {
   p = p;
   before = s;
@@ -628,7 +628,7 @@ limited_some : (o : Option ℕ) (n : ℕ) (m : ℕ) → o ≡ Some n → IfSome 
 limited_some o n m e h = subst (λ (x : Option ℕ). IfSome x (λ _. 0 < m)) e h
 
 -- a script so far is one of which only the code is known, or has a line before
-pub before : (q : Place) (s : Script) → IsBegun q s → ((q ≡ place.Code) × (s ≡ opened s.form s.geometry)) ⊎ HasBefore q s
+pub before : (q : ScriptPlace) (s : Script) → IsBegun q s → ((q ≡ place.Code) × (s ≡ opened s.form s.geometry)) ⊎ HasBefore q s
 before place.Code s b =
     let bare = b.at.0 in
     let a = ap (λ (o : Option ℕ). script_from s.form s.geometry o s.tries s.clients s.repairers s.schedule) b.at.1 in

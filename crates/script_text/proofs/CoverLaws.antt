@@ -29,8 +29,8 @@ use Rattle.line_grammar.specs.Values.{IsNumber, IsScript}
 use Rattle.line_grammar.specs.declared.fault.FaultKind.{FaultKind}
 use Rattle.line_grammar.specs.declared.fault.FaultKind.TheVariants as fault
 use Rattle.script_text.specs.declared.place.LineKind.TheVariants as kind
-use Rattle.script_text.specs.declared.place.Place.{Place}
-use Rattle.script_text.specs.declared.place.Place.TheVariants as place
+use Rattle.script_text.specs.declared.place.ScriptPlace.{ScriptPlace}
+use Rattle.script_text.specs.declared.place.ScriptPlace.TheVariants as place
 use Rattle.script_text.proofs.FrameLaws.{begun_line, no_clay, no_code}
 use Rattle.script_text.proofs.ReaderLaws.{tries_place, client_place, repairer_place, schedule_place, leave_at, names_part, call_value, call_place, call_behind, rebuild_place, rebuild_behind}
 use Rattle.script_text.proofs.ScriptLaws.{ended_lines, front_fault, front_missing, one_more}
@@ -39,30 +39,30 @@ use Rattle.script_text.proofs.StepLaws.{size_step, tries_step, client_step, repa
 -- ---- one line on
 
 -- what equals a place is there
-some_of : (o : Option Place) (q : Place) → o ≡ Some q → IsSome o
+some_of : (o : Option ScriptPlace) (q : ScriptPlace) → o ≡ Some q → IsSome o
 some_of o q e = rw e refl
 
 -- the place is the one where such a line leads
-leads : (o : Option Place) (q q' : Place) → o ≡ Some q → o ≡ Some q' → q' ≡ q
+leads : (o : Option ScriptPlace) (q q' : ScriptPlace) → o ≡ Some q → o ≡ Some q' → q' ≡ q
 leads o q q' e e' = cc (e, e')
 
 -- the same place by another name
-moved : (q q' : Place) (s : Script) → q' ≡ q → IsBegun q' s → IsBegun q s
-moved q q' s e b = subst (λ (x : Place). IsBegun x s) e b
+moved : (q q' : ScriptPlace) (s : Script) → q' ≡ q → IsBegun q' s → IsBegun q s
+moved q q' s e b = subst (λ (x : ScriptPlace). IsBegun x s) e b
 
 -- a size line without a fault leads to a script so far
-size_on : (p q : Place) (s : Script) (n : ℕ) → IsBegun p s → next_place p kind.Size 0 ≡ Some q → IsNumber n → IsWithinLimits (with_line p s (SizeLine n)) → IsBegun q (with_line p s (SizeLine n))
+size_on : (p q : ScriptPlace) (s : Script) (n : ℕ) → IsBegun p s → next_place p kind.Size 0 ≡ Some q → IsNumber n → IsWithinLimits (with_line p s (SizeLine n)) → IsBegun q (with_line p s (SizeLine n))
 size_on place.Code q s n b e small l = moved q place.Size (with_line place.Code s (SizeLine n)) (cc e) (size_step s n b small l.size.0 l.size.1)
 size_on _ q s n b e small l = absurd (cc e)
 
 -- so does a tries line
-tries_on : (p q : Place) (s : Script) (n : ℕ) → IsBegun p s → next_place p kind.Tries 0 ≡ Some q → IsNumber n → IsWithinLimits (with_line p s (TriesLine n)) → IsBegun q (with_line p s (TriesLine n))
+tries_on : (p q : ScriptPlace) (s : Script) (n : ℕ) → IsBegun p s → next_place p kind.Tries 0 ≡ Some q → IsNumber n → IsWithinLimits (with_line p s (TriesLine n)) → IsBegun q (with_line p s (TriesLine n))
 tries_on p q s n b e small l =
     let at = tries_place p s (some_of (next_place p kind.Tries 0) q e) b.at in
     moved q place.Tries (with_line p s (TriesLine n)) (leads (next_place p kind.Tries 0) q place.Tries e (at.1 0)) (tries_step p s n at.0 b.values b.valid small l.tries.0 l.tries.1)
 
 -- so does a client's first line
-client_on : (p q : Place) (s : Script) → IsBegun p s → next_place p kind.Client 0 ≡ Some q → IsWithinLimits (with_line p s ClientLine) → IsBegun q (with_line p s ClientLine)
+client_on : (p q : ScriptPlace) (s : Script) → IsBegun p s → next_place p kind.Client 0 ≡ Some q → IsWithinLimits (with_line p s ClientLine) → IsBegun q (with_line p s ClientLine)
 client_on p q s b e l =
     let at = client_place p s (some_of (next_place p kind.Client 0) q e) b.at in
     let len = length-append s.clients (empty_client ∷ []) in
@@ -70,7 +70,7 @@ client_on p q s b e l =
     (client_step p s at.0 at.1 b.values b.valid (omega (arith, len, l.clients)))
 
 -- so does a repairer's first line
-repairer_on : (p q : Place) (s : Script) → IsBegun p s → next_place p kind.Repairer 0 ≡ Some q → IsWithinLimits (with_line p s RepairerLine) → IsBegun q (with_line p s RepairerLine)
+repairer_on : (p q : ScriptPlace) (s : Script) → IsBegun p s → next_place p kind.Repairer 0 ≡ Some q → IsWithinLimits (with_line p s RepairerLine) → IsBegun q (with_line p s RepairerLine)
 repairer_on p q s b e l =
     let at = repairer_place p s (some_of (next_place p kind.Repairer 0) q e) b.at in
     let len = length-append s.repairers (empty_repairer ∷ []) in
@@ -78,7 +78,7 @@ repairer_on p q s b e l =
     (repairer_step p s at.0 b.values b.valid (omega (arith, len, l.repairers)))
 
 -- so does a client's call
-call_on : (p q : Place) (s : Script) (call : Call) → IsBegun p s → next_place p kind.Call 0 ≡ Some q → HasForm (CallLine call) → HasNumbers (CallLine call)
+call_on : (p q : ScriptPlace) (s : Script) (call : Call) → IsBegun p s → next_place p kind.Call 0 ≡ Some q → HasForm (CallLine call) → HasNumbers (CallLine call)
     → IsWithinLimits (with_line p s (CallLine call)) → IsBegun q (with_line p s (CallLine call))
 call_on p q s call b e form numbers l =
     let place' = call_place p s (some_of (next_place p kind.Call 0) q e) b.at in
@@ -94,7 +94,7 @@ call_on p q s call b e form numbers l =
     subst (IsBegun q) (sym made) now
 
 -- so does a repairer's call
-rebuild_on : (p q : Place) (s : Script) (r : Rebuild) → IsBegun p s → next_place p kind.Rebuild 0 ≡ Some q → HasForm (RebuildLine r) → HasNumbers (RebuildLine r)
+rebuild_on : (p q : ScriptPlace) (s : Script) (r : Rebuild) → IsBegun p s → next_place p kind.Rebuild 0 ≡ Some q → HasForm (RebuildLine r) → HasNumbers (RebuildLine r)
     → IsWithinLimits (with_line p s (RebuildLine r)) → r.server < chunk_count s.geometry → IsBegun q (with_line p s (RebuildLine r))
 rebuild_on p q s r b e form numbers l known =
     let place' = rebuild_place p s (some_of (next_place p kind.Rebuild 0) q e) b.at in
@@ -109,13 +109,13 @@ rebuild_on p q s r b e form numbers l known =
     subst (IsBegun q) (sym made) now
 
 -- so does the line before the schedule
-schedule_on : (p q : Place) (s : Script) → IsBegun p s → next_place p kind.Schedule 0 ≡ Some q → IsBegun q s
+schedule_on : (p q : ScriptPlace) (s : Script) → IsBegun p s → next_place p kind.Schedule 0 ≡ Some q → IsBegun q s
 schedule_on p q s b e =
     let at = schedule_place p s (some_of (next_place p kind.Schedule 0) q e) b.at in
     moved q place.Schedule s (leads (next_place p kind.Schedule 0) q place.Schedule e (at.1 0)) (record { at = tt; values = b.values; valid = b.valid })
 
 -- so does a step
-step_on : (p q : Place) (s : Script) (t : Token) → IsBegun p s → next_place p kind.Step 0 ≡ Some q → HasNumbers (StepLine t) → IsWithinLimits (with_line p s (StepLine t))
+step_on : (p q : ScriptPlace) (s : Script) (t : Token) → IsBegun p s → next_place p kind.Step 0 ≡ Some q → HasNumbers (StepLine t) → IsWithinLimits (with_line p s (StepLine t))
     → IsOfForm s.form t → NamesActorOf s t → IfSome (server_of_step t) (λ server. server < chunk_count s.geometry) → IsBegun q (with_line p s (StepLine t))
 step_on place.Schedule q s t b e small l of_form actor server =
     let len = length-append s.schedule (t ∷ []) in
@@ -124,12 +124,12 @@ step_on place.Schedule q s t b e small l of_form actor server =
 step_on _ q s t b e small l of_form actor server = absurd (cc e)
 
 -- so does the last line
-end_on : (p q : Place) (s : Script) → IsBegun p s → next_place p kind.End 0 ≡ Some q → IsBegun q s
+end_on : (p q : ScriptPlace) (s : Script) → IsBegun p s → next_place p kind.End 0 ≡ Some q → IsBegun q s
 end_on place.Schedule q s b e = moved q place.End s (cc e) (record { at = tt; values = b.values; valid = b.valid })
 end_on _ q s b e = absurd (cc e)
 
 -- a line without a fault leads to a script so far
-line_on : (p q : Place) (s : Script) (l : Line) → IsBegun p s → place_behind p l ≡ Some q → IsLineOfForm s.form l → HasForm l → HasNumbers l → IsWithinLimits (with_line p s l)
+line_on : (p q : ScriptPlace) (s : Script) (l : Line) → IsBegun p s → place_behind p l ≡ Some q → IsLineOfForm s.form l → HasForm l → HasNumbers l → IsWithinLimits (with_line p s l)
     → NamesActor (Begun p s) l → NamesServer (Begun p s) l → IsBegun q (with_line p s l)
 line_on p q s (ClayLine form_of_it) b e of_form form numbers l actor server = absurd (no_clay p q e)
 line_on p q s (CodeLine g) b e of_form form numbers l actor server = absurd (no_code p q e)
@@ -200,7 +200,7 @@ next_of (Begun p s) l sound stands form fits geometry actor server =
       lines = begun_line p q.0 s l q.1 sound.at;
     }
   where
-    some_place : (o : Option Place) → IsSome o → (q : Place) × (o ≡ Some q)
+    some_place : (o : Option ScriptPlace) → IsSome o → (q : ScriptPlace) × (o ≡ Some q)
     some_place None h = absurd (cc h)
     some_place (Some q) h = (q, refl)
 
@@ -267,7 +267,7 @@ ended_case : (bytes : List ℕ) (f : Front) (rest : List ℕ) → HasEnded f →
 ended_case bytes Empty rest e sound parted none faultless = e
 ended_case bytes (Opened form) rest e sound parted none faultless = e
 ended_case bytes (Begun p s) rest e sound parted none faultless =
-    ended_covered bytes s rest (subst (λ (x : Place). IsBegun x s) e sound) (parted ∙ ap (λ (x : Place). flat_map line_text (begun x s) ++ rest) e) none faultless
+    ended_covered bytes s rest (subst (λ (x : ScriptPlace). IsBegun x s) e sound) (parted ∙ ap (λ (x : ScriptPlace). flat_map line_text (begun x s) ++ rest) e) none faultless
 
 -- what stands behind a front, where whole lines can be left to another
 covered_at : (bytes : List ℕ) (f : Front) (rest : List ℕ) → IsFront f → bytes ≡ flat_map line_text (front_lines f) ++ rest → NoScript bytes → NoFault bytes

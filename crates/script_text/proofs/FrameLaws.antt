@@ -18,8 +18,8 @@ use Rattle.line_grammar.specs.Line.{Line, ClayLine, CodeLine, SizeLine, TriesLin
 use Rattle.script_text.specs.Place.{next_place}
 use Rattle.script_text.specs.Spelling.{limited, client_lines, repairer_lines, optional_line}
 use Rattle.script_text.specs.declared.place.LineKind.TheVariants as kind
-use Rattle.script_text.specs.declared.place.Place.{Place}
-use Rattle.script_text.specs.declared.place.Place.TheVariants as place
+use Rattle.script_text.specs.declared.place.ScriptPlace.{ScriptPlace}
+use Rattle.script_text.specs.declared.place.ScriptPlace.TheVariants as place
 use Rattle.script_text.proofs.StepLaws.{empty_client, empty_repairer, with_call, with_rebuild, call_clients, rebuild_repairers}
 
 -- lines before the blocks
@@ -31,7 +31,7 @@ frame : ℕ × Shape → Option ℕ → Option ℕ → List ClientPart → List 
 frame g size tries clients repairers behind = ((opening g size tries ++ flat_map client_lines clients) ++ flat_map repairer_lines repairers) ++ behind
 
 -- the lines of a script so far are a frame
-begun-frame : (p : Place) (s : Script) → begun p s ≡ frame (s.form, s.geometry) s.size s.tries s.clients s.repairers (lines_behind_blocks p s)
+begun-frame : (p : ScriptPlace) (s : Script) → begun p s ≡ frame (s.form, s.geometry) s.size s.tries s.clients s.repairers (lines_behind_blocks p s)
 unfolding frame opening
 begun-frame p s = refl
 
@@ -181,17 +181,17 @@ rebuild_case : (g : ℕ × Shape) (a b : Option ℕ) (c : List ClientPart) (r r'
 rebuild_case g a b c r r' front part part' behind l er er' e = rw (er, er') (rebuild_more g a b c front part part' behind l e)
 
 -- from frames to the lines of a script so far
-framed : (p q : Place) (s s' : Script) (l : Line)
+framed : (p q : ScriptPlace) (s s' : Script) (l : Line)
     → frame (s'.form, s'.geometry) s'.size s'.tries s'.clients s'.repairers (lines_behind_blocks q s') ≡ frame (s.form, s.geometry) s.size s.tries s.clients s.repairers (lines_behind_blocks p s) ++ l ∷ []
     → begun q s' ≡ begun p s ++ l ∷ []
 framed p q s s' l e = begun-frame q s' ∙ e ∙ ap (λ (ls : List Line). ls ++ l ∷ []) (sym (begun-frame p s))
 
 -- at another name of the place
-at_place : (p q q' : Place) (s s' : Script) (l : Line) → q' ≡ q → begun q' s' ≡ begun p s ++ l ∷ [] → begun q s' ≡ begun p s ++ l ∷ []
-at_place p q q' s s' l same e = subst (λ (x : Place). begun x s' ≡ begun p s ++ l ∷ []) same e
+at_place : (p q q' : ScriptPlace) (s s' : Script) (l : Line) → q' ≡ q → begun q' s' ≡ begun p s ++ l ∷ [] → begun q s' ≡ begun p s ++ l ∷ []
+at_place p q q' s s' l same e = subst (λ (x : ScriptPlace). begun x s' ≡ begun p s ++ l ∷ []) same e
 
 -- a size line comes behind the lines before it
-size_lines : (p q : Place) (s : Script) (n : ℕ) → next_place p kind.Size 0 ≡ Some q → IsAt p s → begun q (with_line p s (SizeLine n)) ≡ begun p s ++ SizeLine n ∷ []
+size_lines : (p q : ScriptPlace) (s : Script) (n : ℕ) → next_place p kind.Size 0 ≡ Some q → IsAt p s → begun q (with_line p s (SizeLine n)) ≡ begun p s ++ SizeLine n ∷ []
 size_lines place.Code q s n e at =
     at_place place.Code q place.Size s (with_line place.Code s (SizeLine n)) (SizeLine n) (cc e)
     (framed place.Code place.Size s (with_line place.Code s (SizeLine n)) (SizeLine n)
@@ -199,7 +199,7 @@ size_lines place.Code q s n e at =
 size_lines _ q s n e at = absurd (cc e)
 
 -- so does a tries line
-tries_lines : (p q : Place) (s : Script) (n : ℕ) → next_place p kind.Tries 0 ≡ Some q → IsAt p s → begun q (with_line p s (TriesLine n)) ≡ begun p s ++ TriesLine n ∷ []
+tries_lines : (p q : ScriptPlace) (s : Script) (n : ℕ) → next_place p kind.Tries 0 ≡ Some q → IsAt p s → begun q (with_line p s (TriesLine n)) ≡ begun p s ++ TriesLine n ∷ []
 tries_lines place.Code q s n e at =
     at_place place.Code q place.Tries s (with_line place.Code s (TriesLine n)) (TriesLine n) (cc e)
     (framed place.Code place.Tries s (with_line place.Code s (TriesLine n)) (TriesLine n)
@@ -211,7 +211,7 @@ tries_lines place.Size q s n e at =
 tries_lines _ q s n e at = absurd (cc e)
 
 -- so does a client's first line, at one place
-client_lines_more : (p q : Place) (s : Script) → lines_behind_blocks p s ≡ [] → place.Client ≡ q → s.repairers ≡ [] → begun q (with_line p s ClientLine) ≡ begun p s ++ ClientLine ∷ []
+client_lines_more : (p q : ScriptPlace) (s : Script) → lines_behind_blocks p s ≡ [] → place.Client ≡ q → s.repairers ≡ [] → begun q (with_line p s ClientLine) ≡ begun p s ++ ClientLine ∷ []
 client_lines_more p q s behind same no_repairers =
     at_place p q place.Client s (with_line p s ClientLine) ClientLine same
     (framed p place.Client s (with_line p s ClientLine) ClientLine
@@ -219,7 +219,7 @@ client_lines_more p q s behind same no_repairers =
     ∙ ap (λ (ls : List Line). frame (s.form, s.geometry) s.size s.tries s.clients s.repairers ls ++ ClientLine ∷ []) (sym behind)))
 
 -- and at each place
-client_start : (p q : Place) (s : Script) → next_place p kind.Client 0 ≡ Some q → IsAt p s → begun q (with_line p s ClientLine) ≡ begun p s ++ ClientLine ∷ []
+client_start : (p q : ScriptPlace) (s : Script) → next_place p kind.Client 0 ≡ Some q → IsAt p s → begun q (with_line p s ClientLine) ≡ begun p s ++ ClientLine ∷ []
 client_start place.Code q s e at = client_lines_more place.Code q s refl (cc e) at.0.repairers
 client_start place.Size q s e at = client_lines_more place.Size q s refl (cc e) at.0.repairers
 client_start place.Tries q s e at = client_lines_more place.Tries q s refl (cc e) at.0.repairers
@@ -228,7 +228,7 @@ client_start place.ClientEnd q s e at = client_lines_more place.ClientEnd q s re
 client_start _ q s e at = absurd (cc e)
 
 -- so does a repairer's first line, at one place
-repairer_lines_more : (p q : Place) (s : Script) → lines_behind_blocks p s ≡ [] → place.Repairer ≡ q → begun q (with_line p s RepairerLine) ≡ begun p s ++ RepairerLine ∷ []
+repairer_lines_more : (p q : ScriptPlace) (s : Script) → lines_behind_blocks p s ≡ [] → place.Repairer ≡ q → begun q (with_line p s RepairerLine) ≡ begun p s ++ RepairerLine ∷ []
 repairer_lines_more p q s behind same =
     at_place p q place.Repairer s (with_line p s RepairerLine) RepairerLine same
     (framed p place.Repairer s (with_line p s RepairerLine) RepairerLine
@@ -236,7 +236,7 @@ repairer_lines_more p q s behind same =
     ∙ ap (λ (ls : List Line). frame (s.form, s.geometry) s.size s.tries s.clients s.repairers ls ++ RepairerLine ∷ []) (sym behind)))
 
 -- and at each place
-repairer_start : (p q : Place) (s : Script) → next_place p kind.Repairer 0 ≡ Some q → begun q (with_line p s RepairerLine) ≡ begun p s ++ RepairerLine ∷ []
+repairer_start : (p q : ScriptPlace) (s : Script) → next_place p kind.Repairer 0 ≡ Some q → begun q (with_line p s RepairerLine) ≡ begun p s ++ RepairerLine ∷ []
 repairer_start place.Code q s e = repairer_lines_more place.Code q s refl (cc e)
 repairer_start place.Size q s e = repairer_lines_more place.Size q s refl (cc e)
 repairer_start place.Tries q s e = repairer_lines_more place.Tries q s refl (cc e)
@@ -247,7 +247,7 @@ repairer_start place.RepairerEnd q s e = repairer_lines_more place.RepairerEnd q
 repairer_start _ q s e = absurd (cc e)
 
 -- so does a step limit
-leave_lines : (p q : Place) (s : Script) (n : ℕ) → next_place p kind.Leave n ≡ Some q → begun q s ≡ begun p s ++ LeaveLine n ∷ []
+leave_lines : (p q : ScriptPlace) (s : Script) (n : ℕ) → next_place p kind.Leave n ≡ Some q → begun q s ≡ begun p s ++ LeaveLine n ∷ []
 leave_lines place.Client q s n e =
     at_place place.Client q (place.ClientLimit n) s s (LeaveLine n) (cc e)
     (framed place.Client (place.ClientLimit n) s s (LeaveLine n) (behind_more (s.form, s.geometry) s.size s.tries s.clients s.repairers [] (LeaveLine n)))
@@ -257,7 +257,7 @@ leave_lines place.Repairer q s n e =
 leave_lines _ q s n e = absurd (cc e)
 
 -- so does a call
-call_lines : (p q : Place) (s : Script) (call : Call) → next_place p kind.Call 0 ≡ Some q → IsAt p s → begun q (with_line p s (CallLine call)) ≡ begun p s ++ CallLine call ∷ []
+call_lines : (p q : ScriptPlace) (s : Script) (call : Call) → next_place p kind.Call 0 ≡ Some q → IsAt p s → begun q (with_line p s (CallLine call)) ≡ begun p s ++ CallLine call ∷ []
 call_lines place.Client q s call e at =
     let s' = with_line place.Client s (CallLine call) in
     at_place place.Client q place.Client s s' (CallLine call) (cc e)
@@ -277,7 +277,7 @@ call_lines (place.ClientLimit n) q s call e at =
 call_lines _ q s call e at = absurd (cc e)
 
 -- so does a rebuild
-rebuild_lines : (p q : Place) (s : Script) (rebuild : Rebuild) → next_place p kind.Rebuild 0 ≡ Some q → IsAt p s → begun q (with_line p s (RebuildLine rebuild)) ≡ begun p s ++ RebuildLine rebuild ∷ []
+rebuild_lines : (p q : ScriptPlace) (s : Script) (rebuild : Rebuild) → next_place p kind.Rebuild 0 ≡ Some q → IsAt p s → begun q (with_line p s (RebuildLine rebuild)) ≡ begun p s ++ RebuildLine rebuild ∷ []
 rebuild_lines place.Repairer q s rebuild e at =
     let s' = with_line place.Repairer s (RebuildLine rebuild) in
     at_place place.Repairer q place.Repairer s s' (RebuildLine rebuild) (cc e)
@@ -297,7 +297,7 @@ rebuild_lines (place.RepairerLimit n) q s rebuild e at =
 rebuild_lines _ q s rebuild e at = absurd (cc e)
 
 -- so does the line before the schedule, at one place
-schedule_lines_more : (p q : Place) (s : Script) → lines_behind_blocks p s ≡ [] → place.Schedule ≡ q → s.schedule ≡ [] → begun q s ≡ begun p s ++ ScheduleLine ∷ []
+schedule_lines_more : (p q : ScriptPlace) (s : Script) → lines_behind_blocks p s ≡ [] → place.Schedule ≡ q → s.schedule ≡ [] → begun q s ≡ begun p s ++ ScheduleLine ∷ []
 schedule_lines_more p q s behind same no_schedule =
     at_place p q place.Schedule s s ScheduleLine same
     (framed p place.Schedule s s ScheduleLine
@@ -306,7 +306,7 @@ schedule_lines_more p q s behind same no_schedule =
     ∙ ap (λ (ls : List Line). frame (s.form, s.geometry) s.size s.tries s.clients s.repairers ls ++ ScheduleLine ∷ []) (sym behind)))
 
 -- and at each place
-schedule_start : (p q : Place) (s : Script) → next_place p kind.Schedule 0 ≡ Some q → IsAt p s → begun q s ≡ begun p s ++ ScheduleLine ∷ []
+schedule_start : (p q : ScriptPlace) (s : Script) → next_place p kind.Schedule 0 ≡ Some q → IsAt p s → begun q s ≡ begun p s ++ ScheduleLine ∷ []
 schedule_start place.Code q s e at = schedule_lines_more place.Code q s refl (cc e) at.0.schedule
 schedule_start place.Size q s e at = schedule_lines_more place.Size q s refl (cc e) at.0.schedule
 schedule_start place.Tries q s e at = schedule_lines_more place.Tries q s refl (cc e) at.0.schedule
@@ -317,7 +317,7 @@ schedule_start place.RepairerEnd q s e at = schedule_lines_more place.RepairerEn
 schedule_start _ q s e at = absurd (cc e)
 
 -- so does a step
-step_lines : (p q : Place) (s : Script) (step : Token) → next_place p kind.Step 0 ≡ Some q → begun q (with_line p s (StepLine step)) ≡ begun p s ++ StepLine step ∷ []
+step_lines : (p q : ScriptPlace) (s : Script) (step : Token) → next_place p kind.Step 0 ≡ Some q → begun q (with_line p s (StepLine step)) ≡ begun p s ++ StepLine step ∷ []
 step_lines place.Schedule q s step e =
     let s' = with_line place.Schedule s (StepLine step) in
     at_place place.Schedule q place.Schedule s s' (StepLine step) (cc e)
@@ -327,7 +327,7 @@ step_lines place.Schedule q s step e =
 step_lines _ q s step e = absurd (cc e)
 
 -- so does the last line
-end_lines : (p q : Place) (s : Script) → next_place p kind.End 0 ≡ Some q → begun q s ≡ begun p s ++ EndLine ∷ []
+end_lines : (p q : ScriptPlace) (s : Script) → next_place p kind.End 0 ≡ Some q → begun q s ≡ begun p s ++ EndLine ∷ []
 end_lines place.Schedule q s e =
     at_place place.Schedule q place.End s s EndLine (cc e)
     (framed place.Schedule place.End s s EndLine
@@ -335,17 +335,17 @@ end_lines place.Schedule q s e =
 end_lines _ q s e = absurd (cc e)
 
 -- the first line stands behind no other
-pub no_clay : (p : Place) (q : Place) → next_place p kind.Clay 0 ≡ Some q → ⊥
+pub no_clay : (p : ScriptPlace) (q : ScriptPlace) → next_place p kind.Clay 0 ≡ Some q → ⊥
 no_clay place.Code q e = cc e
 no_clay _ q e = cc e
 
 -- the code line stands behind the first alone
-pub no_code : (p : Place) (q : Place) → next_place p kind.Code 0 ≡ Some q → ⊥
+pub no_code : (p : ScriptPlace) (q : ScriptPlace) → next_place p kind.Code 0 ≡ Some q → ⊥
 no_code place.Code q e = cc e
 no_code _ q e = cc e
 
 -- a line that may stand comes behind the lines before it
-pub begun_line : (p q : Place) (s : Script) (l : Line) → place_behind p l ≡ Some q → IsAt p s → begun q (with_line p s l) ≡ begun p s ++ l ∷ []
+pub begun_line : (p q : ScriptPlace) (s : Script) (l : Line) → place_behind p l ≡ Some q → IsAt p s → begun q (with_line p s l) ≡ begun p s ++ l ∷ []
 begun_line p q s (ClayLine form) e at = absurd (no_clay p q e)
 begun_line p q s (CodeLine g) e at = absurd (no_code p q e)
 begun_line p q s (SizeLine n) e at = size_lines p q s n e at

@@ -22,8 +22,8 @@ use Rattle.line_grammar.specs.Bounds.{HasNumbers}
 use Rattle.line_grammar.specs.Values.{IsScript}
 use Rattle.line_grammar.specs.declared.fault.FaultKind.{FaultKind}
 use Rattle.line_grammar.specs.declared.fault.FaultKind.TheVariants as fault
-use Rattle.script_text.specs.declared.place.Place.{Place}
-use Rattle.script_text.specs.declared.place.Place.TheVariants as place
+use Rattle.script_text.specs.declared.place.ScriptPlace.{ScriptPlace}
+use Rattle.script_text.specs.declared.place.ScriptPlace.TheVariants as place
 use Rattle.script_text.proofs.BackLaws.{last_item, HasBefore, before}
 use Rattle.script_text.proofs.FrameLaws.{begun_line, no_code}
 use Rattle.line_grammar.proofs.LineLaws.{same_parts, never_parted, line_front}
@@ -33,7 +33,7 @@ use Rattle.script_text.proofs.ScriptLaws.{ended_lines}
 -- ---- fronts, line by line
 
 -- the front at a place, if there is one
-abbrev placed : Script → Option Place → Option Front
+abbrev placed : Script → Option ScriptPlace → Option Front
 placed s (Some q) = Some (Begun q s)
 placed s None = None
 
@@ -64,7 +64,7 @@ record HasFrontBefore (front : Front) : Type 0 where
   pub ok : IsLineOk before l
 
 -- a line behind the code line has no geometry to keep
-stands_geometry : (p q : Place) (l : Line) → place_behind p l ≡ Some q → HasGeometry l
+stands_geometry : (p q : ScriptPlace) (l : Line) → place_behind p l ≡ Some q → HasGeometry l
 stands_geometry p q (CodeLine g) e = absurd (no_code p q e)
 stands_geometry p q _ e = tt
 
@@ -84,11 +84,11 @@ code_back s b start = record {
 }
 
 -- the front at a place that is there
-placed_is : (s t : Script) (o : Option Place) (q : Place) → o ≡ Some q → s ≡ t → placed s o ≡ Some (Begun q t)
+placed_is : (s t : Script) (o : Option ScriptPlace) (q : ScriptPlace) → o ≡ Some q → s ≡ t → placed s o ≡ Some (Begun q t)
 placed_is s t o q e e' = ap (placed s) e ∙ ap (λ (x : Script). Some (Begun q x)) e'
 
 -- a script so far has the front before its last line
-line_back : (q : Place) (s : Script) → IsBegun q s → HasBefore q s → HasFrontBefore (Begun q s)
+line_back : (q : ScriptPlace) (s : Script) → IsBegun q s → HasBefore q s → HasFrontBefore (Begun q s)
 line_back q s b h = record {
   before = Begun h.p h.before;
   l = h.l;
@@ -121,7 +121,7 @@ front_back (Begun q s) sound = elim (before q s sound) [
   | inr h ↦ inr (line_back q s sound h)
 ]
   where
-    code_start : (q : Place) → q ≡ place.Code → IsBegun q s → s ≡ opened s.form s.geometry → HasFrontBefore (Begun q s)
+    code_start : (q : ScriptPlace) → q ≡ place.Code → IsBegun q s → s ≡ opened s.form s.geometry → HasFrontBefore (Begun q s)
     code_start place.Code e b start = code_back s b start
     code_start _ e b start = absurd (cc e)
 

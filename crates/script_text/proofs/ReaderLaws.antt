@@ -43,8 +43,8 @@ use Rattle.line_grammar.specs.declared.fault.FaultKind.TheVariants as fault
 use Rattle.script_text.specs.declared.load.Load.{Load}
 use Rattle.script_text.specs.declared.place.LineKind.{LineKind}
 use Rattle.script_text.specs.declared.place.LineKind.TheVariants as kind
-use Rattle.script_text.specs.declared.place.Place.{Place}
-use Rattle.script_text.specs.declared.place.Place.TheVariants as place
+use Rattle.script_text.specs.declared.place.ScriptPlace.{ScriptPlace}
+use Rattle.script_text.specs.declared.place.ScriptPlace.TheVariants as place
 use Rattle.script_text.specs.declared.reader.Reader.{Reader}
 use Rattle.line_grammar.proofs.LineLaws.{same_parts, never_parted, Lacks-literal}
 use Rattle.script_text.proofs.StepLaws.{size_step, tries_step, client_step, repairer_step, calls_of, calls_of-empty, empty_client, empty_repairer, step_step, All-front, few_calls, few_rebuilds, with_call, with_rebuild, clients_with, repairers_with, calls_of-call, call_limits, call_limits_back, call_values, call_names, call_clients, rebuild_limits, rebuild_limits_back, rebuild_values, rebuild_names, rebuild_repairers}
@@ -84,13 +84,13 @@ step_line _ e = absurd (cc e)
 -- ---- where lines of a kind may stand
 
 -- where a tries line may stand, no block is
-pub tries_place : (p : Place) (s : Script) → IsSome (next_place p kind.Tries 0) → IsAt p s → IsBare s × ((n : ℕ) → next_place p kind.Tries n ≡ Some place.Tries)
+pub tries_place : (p : ScriptPlace) (s : Script) → IsSome (next_place p kind.Tries 0) → IsAt p s → IsBare s × ((n : ℕ) → next_place p kind.Tries n ≡ Some place.Tries)
 tries_place place.Code s some at = (at.0, λ n. refl)
 tries_place place.Size s some at = (at.0, λ n. refl)
 tries_place _ s some at = absurd (cc some)
 
 -- where a client's first line may stand, no repairer is
-pub client_place : (p : Place) (s : Script) → IsSome (next_place p kind.Client 0) → IsAt p s
+pub client_place : (p : ScriptPlace) (s : Script) → IsSome (next_place p kind.Client 0) → IsAt p s
     → (s.repairers ≡ []) × (s.schedule ≡ []) × ((n : ℕ) → next_place p kind.Client n ≡ Some place.Client)
 client_place place.Code s some at = (at.0.repairers, at.0.schedule, λ n. refl)
 client_place place.Size s some at = (at.0.repairers, at.0.schedule, λ n. refl)
@@ -100,7 +100,7 @@ client_place place.ClientEnd s some at = (at.4, at.5, λ n. refl)
 client_place _ s some at = absurd (cc some)
 
 -- where a repairer's first line may stand, the schedule has not begun
-pub repairer_place : (p : Place) (s : Script) → IsSome (next_place p kind.Repairer 0) → IsAt p s
+pub repairer_place : (p : ScriptPlace) (s : Script) → IsSome (next_place p kind.Repairer 0) → IsAt p s
     → (s.schedule ≡ []) × ((n : ℕ) → next_place p kind.Repairer n ≡ Some place.Repairer)
 repairer_place place.Code s some at = (at.0.schedule, λ n. refl)
 repairer_place place.Size s some at = (at.0.schedule, λ n. refl)
@@ -112,7 +112,7 @@ repairer_place place.RepairerEnd s some at = (at.4, λ n. refl)
 repairer_place _ s some at = absurd (cc some)
 
 -- nor where the line before it may stand
-pub schedule_place : (p : Place) (s : Script) → IsSome (next_place p kind.Schedule 0) → IsAt p s
+pub schedule_place : (p : ScriptPlace) (s : Script) → IsSome (next_place p kind.Schedule 0) → IsAt p s
     → (s.schedule ≡ []) × ((n : ℕ) → next_place p kind.Schedule n ≡ Some place.Schedule)
 schedule_place place.Code s some at = (at.0.schedule, λ n. refl)
 schedule_place place.Size s some at = (at.0.schedule, λ n. refl)
@@ -124,17 +124,17 @@ schedule_place place.RepairerEnd s some at = (at.4, λ n. refl)
 schedule_place _ s some at = absurd (cc some)
 
 -- the last line stands behind the schedule
-pub end_place : (p : Place) → IsSome (next_place p kind.End 0) → p ≡ place.Schedule
+pub end_place : (p : ScriptPlace) → IsSome (next_place p kind.End 0) → p ≡ place.Schedule
 end_place place.Schedule some = refl
 end_place _ some = absurd (cc some)
 
 -- so does a step
-pub step_place : (p : Place) → IsSome (next_place p kind.Step 0) → p ≡ place.Schedule
+pub step_place : (p : ScriptPlace) → IsSome (next_place p kind.Step 0) → p ≡ place.Schedule
 step_place place.Schedule some = refl
 step_place _ some = absurd (cc some)
 
 -- whether a line may stand doesn't hang on its step limit
-pub any_limit : (p : Place) (k : LineKind) (m n : ℕ) → IsSome (next_place p k m) → IsSome (next_place p k n)
+pub any_limit : (p : ScriptPlace) (k : LineKind) (m n : ℕ) → IsSome (next_place p k m) → IsSome (next_place p k n)
 any_limit place.Client kind.Leave m n some = refl
 any_limit place.Repairer kind.Leave m n some = refl
 any_limit place.Code kind.Leave m n some = some
@@ -169,7 +169,7 @@ numbered_err old new text first k make words form number stands of_form only of_
 -- ---- size
 
 -- a size line stands behind the code line
-pub size_place : (p : Place) → IsSome (next_place p kind.Size 0) → p ≡ place.Code
+pub size_place : (p : ScriptPlace) → IsSome (next_place p kind.Size 0) → p ≡ place.Code
 size_place place.Code some = refl
 size_place _ some = absurd (cc some)
 
@@ -190,7 +190,7 @@ pub size_taken : (old : Reader) (text : List ℕ) (n : ℕ) → IsSound old → 
     → IsTaken old text (SizeLine n) (record old { size = Some n; place = place.Size })
 size_taken old text n sound at is small low high =
     let s = script_of old in
-    let begun : IsBegun place.Code s = subst (λ (p : Place). IsBegun p s) at sound.begun in
+    let begun : IsBegun place.Code s = subst (λ (p : ScriptPlace). IsBegun p s) at sound.begun in
     let next = size_step s n begun small low high in
     let none : calls_of (bytes_asked n) s.clients ≡ 0 = ap (calls_of (bytes_asked n)) begun.at.0.clients in
     let none' : calls_of (bytes_asked (size_of s)) s.clients ≡ 0 = ap (calls_of (bytes_asked (size_of s))) begun.at.0.clients in
@@ -256,7 +256,7 @@ client_taken old new text sound some is few not_full made at load =
     let s' = with_line old.place s ClientLine in
     record {
       spelled = (tt, is);
-      place = place'.2 0 ∙ ap (λ (p : Place). Some p) (sym at);
+      place = place'.2 0 ∙ ap (λ (p : ScriptPlace). Some p) (sym at);
       script = made;
       sound = record {
         begun = rw (at, made) next;
@@ -288,7 +288,7 @@ repairer_taken old new text sound some is few not_full made at load =
     let next = repairer_step old.place s place'.0 sound.begun.values sound.begun.valid (omega (arith, few, not_full)) in
     record {
       spelled = (tt, is);
-      place = place'.1 0 ∙ ap (λ (p : Place). Some p) (sym at);
+      place = place'.1 0 ∙ ap (λ (p : ScriptPlace). Some p) (sym at);
       script = made;
       sound = record {
         begun = rw (at, made) next;
@@ -307,13 +307,13 @@ leave_err old new text some of_kind =
     (λ n. any_limit old.place kind.Leave 0 n some) (λ n. tt) leave_line of_kind
 
 -- behind a step limit the block waits for a call
-pub leave_at : (p q : Place) (s : Script) (n : ℕ) → next_place p kind.Leave n ≡ Some q → IsNumber n → IsAt p s → IsAt q s
+pub leave_at : (p q : ScriptPlace) (s : Script) (n : ℕ) → next_place p kind.Leave n ≡ Some q → IsNumber n → IsAt p s → IsAt q s
 leave_at place.Client q s n e small at = let same : place.ClientLimit n ≡ q = cc e in rw (← same) (at, small)
 leave_at place.Repairer q s n e small at = let same : place.RepairerLimit n ≡ q = cc e in rw (← same) (at, small)
 leave_at _ q s n e small at = absurd (cc e)
 
 -- the reader goes on by a step limit
-pub leave_taken : (old : Reader) (text : List ℕ) (n : ℕ) (q : Place) → IsSound old → text ≡ codes "leave " ++ number_word n → IsNumber n → next_place old.place kind.Leave n ≡ Some q
+pub leave_taken : (old : Reader) (text : List ℕ) (n : ℕ) (q : ScriptPlace) → IsSound old → text ≡ codes "leave " ++ number_word n → IsNumber n → next_place old.place kind.Leave n ≡ Some q
     → IsTaken old text (LeaveLine n) (record old { place = q })
 leave_taken old text n q sound is small next = record {
   spelled = (tt, is);
@@ -463,13 +463,13 @@ call_value (Stat name) form fits = form
 call_value (Delete name) form fits = form
 
 -- where a call may stand, a client's block is open
-pub call_place : (p : Place) (s : Script) → IsSome (next_place p kind.Call 0) → IsAt p s → HasOpenClient s × IfSome (pending p) IsNumber
+pub call_place : (p : ScriptPlace) (s : Script) → IsSome (next_place p kind.Call 0) → IsAt p s → HasOpenClient s × IfSome (pending p) IsNumber
 call_place place.Client s some at = (at, tt)
 call_place (place.ClientLimit n) s some at = (at.0, at.1)
 call_place _ s some at = absurd (cc some)
 
 -- the place behind a call
-pub call_behind : (p q : Place) (s : Script) (front : List ClientPart) (part : ClientPart) (call : Call) → next_place p kind.Call 0 ≡ Some q
+pub call_behind : (p q : ScriptPlace) (s : Script) (front : List ClientPart) (part : ClientPart) (call : Call) → next_place p kind.Call 0 ≡ Some q
     → s.repairers ≡ [] → s.schedule ≡ [] → IsAt q (clients_with s (front ++ with_call (pending p) call part ∷ []))
 call_behind place.Client q s front part call e no_repairers no_schedule =
     let same : place.Client ≡ q = cc e in rw (← same) (front, with_call None call part, refl, refl, no_repairers, no_schedule)
@@ -598,13 +598,13 @@ call_taken old new text call stripe_len size sound some form fits is same_len sa
 -- ---- rebuilds
 
 -- where a rebuild may stand, a repairer's block is open
-pub rebuild_place : (p : Place) (s : Script) → IsSome (next_place p kind.Rebuild 0) → IsAt p s → HasOpenRepairer s × IfSome (pending p) IsNumber
+pub rebuild_place : (p : ScriptPlace) (s : Script) → IsSome (next_place p kind.Rebuild 0) → IsAt p s → HasOpenRepairer s × IfSome (pending p) IsNumber
 rebuild_place place.Repairer s some at = (at, tt)
 rebuild_place (place.RepairerLimit n) s some at = (at.0, at.1)
 rebuild_place _ s some at = absurd (cc some)
 
 -- the place behind a rebuild
-pub rebuild_behind : (p q : Place) (s : Script) (front : List RepairPart) (part : RepairPart) (rebuild : Rebuild) → next_place p kind.Rebuild 0 ≡ Some q
+pub rebuild_behind : (p q : ScriptPlace) (s : Script) (front : List RepairPart) (part : RepairPart) (rebuild : Rebuild) → next_place p kind.Rebuild 0 ≡ Some q
     → s.schedule ≡ [] → IsAt q (repairers_with s (front ++ with_rebuild (pending p) rebuild part ∷ []))
 rebuild_behind place.Repairer q s front part rebuild e no_schedule =
     let same : place.Repairer ≡ q = cc e in rw (← same) (front, with_rebuild None rebuild part, refl, refl, no_schedule)
@@ -773,7 +773,7 @@ pub no_kind : (front : Front) (text word : List ℕ) → IsFirstWord text word �
 no_kind front text word first named l spells _ = let same = kind_of_first text word l first spells in cc (named, same)
 
 -- a line of a kind that may not stand there
-pub no_stand : (p : Place) (s : Script) (text : List ℕ) (k : LineKind) → IsOfKind text k → is_some (next_place p k 0) ≡ false → LineFault (Begun p s) text fault.Syntax
+pub no_stand : (p : ScriptPlace) (s : Script) (text : List ℕ) (k : LineKind) → IsOfKind text k → is_some (next_place p k 0) ≡ false → LineFault (Begun p s) text fault.Syntax
 no_stand p s text k of_kind none l spells stands =
     let same = of_kind l spells in
     let some : IsSome (next_place p k (limit_of l)) = subst (λ (x : LineKind). IsSome (next_place p x (limit_of l))) same stands.0 in

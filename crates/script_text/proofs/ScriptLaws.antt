@@ -30,8 +30,8 @@ use Rattle.line_grammar.specs.declared.fault.FaultKind.{FaultKind}
 use Rattle.line_grammar.specs.declared.fault.FaultKind.TheVariants as fault
 use Rattle.script_text.specs.declared.fault.ScriptFault.{ScriptFault}
 use Rattle.script_text.specs.declared.place.LineKind.TheVariants as kind
-use Rattle.script_text.specs.declared.place.Place.{Place}
-use Rattle.script_text.specs.declared.place.Place.TheVariants as place
+use Rattle.script_text.specs.declared.place.ScriptPlace.{ScriptPlace}
+use Rattle.script_text.specs.declared.place.ScriptPlace.TheVariants as place
 use Rattle.script_text.specs.declared.reader.Reader.{Reader}
 use Rattle.script_text.proofs.FrameLaws.{begun_line}
 use Rattle.line_grammar.proofs.LineLaws.{line_front}
@@ -148,7 +148,7 @@ pub read_opened : (bytes : List ℕ) (reader : Reader) (form : ℕ) (g : Shape) 
     → bytes ≡ flat_map line_text (ClayLine form ∷ CodeLine g ∷ []) ++ rest → IsReadTo bytes reader rest 2
 read_opened bytes reader form g rest script at sound is =
     let same : begun reader.place (script_of reader) ≡ ClayLine form ∷ CodeLine g ∷ [] =
-    ap (λ (p : Place). begun p (script_of reader)) at ∙ ap (begun place.Code) script in
+    ap (λ (p : ScriptPlace). begun p (script_of reader)) at ∙ ap (begun place.Code) script in
     record {
       sound = sound;
       counted = sym (ap length same);
@@ -233,7 +233,7 @@ optional_length make None = omega arith
 optional_length make (Some n) = omega arith
 
 -- the lines behind the blocks are few
-behind_length : (p : Place) (s : Script) → length s.schedule ≤ MAX_SCHEDULE → length (lines_behind_blocks p s) ≤ MAX_SCHEDULE + 2
+behind_length : (p : ScriptPlace) (s : Script) → length s.schedule ≤ MAX_SCHEDULE → length (lines_behind_blocks p s) ≤ MAX_SCHEDULE + 2
 behind_length (place.ClientLimit n) s few = omega arith
 behind_length (place.RepairerLimit n) s few = omega arith
 behind_length place.Schedule s few = let len = length-map s.schedule StepLine in omega (arith, len, few)
@@ -244,7 +244,7 @@ behind_length place.End s few =
 behind_length _ s few = omega arith
 
 -- a script so far has few lines
-pub few_lines : (p : Place) (s : Script) → IsWithinLimits s → length (begun p s) < 2 ^ 31
+pub few_lines : (p : ScriptPlace) (s : Script) → IsWithinLimits s → length (begun p s) < 2 ^ 31
 few_lines p s l =
     let a = ClayLine s.form ∷ CodeLine s.geometry ∷ [] in
     let b = optional_line SizeLine s.size in
@@ -285,7 +285,7 @@ pub ended : (bytes : List ℕ) (reader : Reader) (rest : List ℕ) (lines : ℕ)
     → (lines ≡ length (script_lines (script_of reader))) × (bytes ≡ spelling (script_of reader) ++ rest)
 unfolding spelling
 ended bytes reader rest lines so_far at =
-    let same : begun reader.place (script_of reader) ≡ script_lines (script_of reader) = ap (λ (p : Place). begun p (script_of reader)) at ∙ ended_lines (script_of reader) in
+    let same : begun reader.place (script_of reader) ≡ script_lines (script_of reader) = ap (λ (p : ScriptPlace). begun p (script_of reader)) at ∙ ended_lines (script_of reader) in
     (so_far.counted ∙ ap length same, so_far.parted ∙ ap (λ (ls : List Line). flat_map line_text ls ++ rest) same)
 
 -- what is left of a text, by the length of its front

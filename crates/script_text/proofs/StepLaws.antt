@@ -18,8 +18,8 @@ use Rattle.script_text.specs.Behind.{on_last, pending, with_line}
 use Rattle.script_text.specs.SoFar.{IsBare, IsBegun}
 use Rattle.line_grammar.specs.Line.{SizeLine, TriesLine, ClientLine, RepairerLine, CallLine, RebuildLine, StepLine}
 use Rattle.line_grammar.specs.Values.{IsNumber, IsCall, IsRebuild, IsScript, token_number}
-use Rattle.script_text.specs.declared.place.Place.{Place}
-use Rattle.script_text.specs.declared.place.Place.TheVariants as place
+use Rattle.script_text.specs.declared.place.ScriptPlace.{ScriptPlace}
+use Rattle.script_text.specs.declared.place.ScriptPlace.TheVariants as place
 
 -- the last item is the one at the end
 pub on_last-push : {A : Type 0} (f : A → A) (xs : List A) (x : A) → on_last f (xs ++ x ∷ []) ≡ xs ++ f x ∷ []
@@ -121,7 +121,7 @@ size_step s n b small low high =
     }
 
 -- with tries
-pub tries_step : (p : Place) (s : Script) (n : ℕ) → IsBare s → IsScript s → IsValid s → IsNumber n → 1 ≤ n → n ≤ MAX_TRIES → IsBegun place.Tries (with_line p s (TriesLine n))
+pub tries_step : (p : ScriptPlace) (s : Script) (n : ℕ) → IsBare s → IsScript s → IsValid s → IsNumber n → 1 ≤ n → n ≤ MAX_TRIES → IsBegun place.Tries (with_line p s (TriesLine n))
 tries_step p s n bare values valid small low high =
     let l = valid.limits in
     record {
@@ -166,7 +166,7 @@ pub calls_of-empty : (f : Call → ℕ) (parts : List ClientPart) → calls_of f
 calls_of-empty f parts = sum_by_push (λ (part : ClientPart). sum_by f part.calls) parts empty_client ∙ add-zero (calls_of f parts)
 
 -- a script so far with one client more
-pub client_step : (p : Place) (s : Script) → s.repairers ≡ [] → s.schedule ≡ [] → IsScript s → IsValid s → length s.clients < MAX_CLIENTS
+pub client_step : (p : ScriptPlace) (s : Script) → s.repairers ≡ [] → s.schedule ≡ [] → IsScript s → IsValid s → length s.clients < MAX_CLIENTS
     → IsBegun place.Client (with_line p s ClientLine)
 client_step p s no_repairers no_schedule values valid few =
     let l = valid.limits in
@@ -210,7 +210,7 @@ client_step p s no_repairers no_schedule values valid few =
     }
 
 -- with one repairer more
-pub repairer_step : (p : Place) (s : Script) → s.schedule ≡ [] → IsScript s → IsValid s → length s.repairers < MAX_REPAIRERS
+pub repairer_step : (p : ScriptPlace) (s : Script) → s.schedule ≡ [] → IsScript s → IsValid s → length s.repairers < MAX_REPAIRERS
     → IsBegun place.Repairer (with_line p s RepairerLine)
 repairer_step p s no_schedule values valid few =
     let l = valid.limits in
@@ -361,7 +361,7 @@ call_names s front part leave call parted no_schedule names =
     limits_some (Some n) = positive_length Call part.calls call
 
 -- the script with the last client's call
-pub call_clients : (p : Place) (s : Script) (front : List ClientPart) (part : ClientPart) (call : Call) → s.clients ≡ front ++ part ∷ []
+pub call_clients : (p : ScriptPlace) (s : Script) (front : List ClientPart) (part : ClientPart) (call : Call) → s.clients ≡ front ++ part ∷ []
     → with_line p s (CallLine call) ≡ clients_with s (front ++ with_call (pending p) call part ∷ [])
 call_clients p s front part call parted =
     ap (clients_with s) (ap (on_last (with_call (pending p) call)) parted ∙ on_last-push (with_call (pending p) call) front part)
@@ -437,7 +437,7 @@ rebuild_names s front part leave rebuild parted no_schedule known names =
     limits_some (Some n) = positive_length Rebuild part.calls rebuild
 
 -- the script with the last repairer's rebuild
-pub rebuild_repairers : (p : Place) (s : Script) (front : List RepairPart) (part : RepairPart) (rebuild : Rebuild) → s.repairers ≡ front ++ part ∷ []
+pub rebuild_repairers : (p : ScriptPlace) (s : Script) (front : List RepairPart) (part : RepairPart) (rebuild : Rebuild) → s.repairers ≡ front ++ part ∷ []
     → with_line p s (RebuildLine rebuild) ≡ repairers_with s (front ++ with_rebuild (pending p) rebuild part ∷ [])
 rebuild_repairers p s front part rebuild parted =
     ap (repairers_with s) (ap (on_last (with_rebuild (pending p) rebuild)) parted ∙ on_last-push (with_rebuild (pending p) rebuild) front part)

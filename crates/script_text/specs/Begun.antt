@@ -4,11 +4,11 @@ use Rattle.std.specs.List.{flat_map}
 use Rattle.store_map.specs.declared.script.Script.{Script}
 use Rattle.line_grammar.specs.Line.{Line, ClayLine, CodeLine, SizeLine, TriesLine, LeaveLine, ScheduleLine, StepLine, EndLine}
 use Rattle.script_text.specs.Spelling.{client_lines, repairer_lines, optional_line}
-use Rattle.script_text.specs.declared.place.Place.{Place}
-use Rattle.script_text.specs.declared.place.Place.TheVariants as place
+use Rattle.script_text.specs.declared.place.ScriptPlace.{ScriptPlace}
+use Rattle.script_text.specs.declared.place.ScriptPlace.TheVariants as place
 
 -- the lines behind the blocks, up to a place
-abbrev pub lines_behind_blocks : Place → Script → List Line
+abbrev pub lines_behind_blocks : ScriptPlace → Script → List Line
 lines_behind_blocks (place.ClientLimit steps) script = LeaveLine steps ∷ []
 lines_behind_blocks (place.RepairerLimit steps) script = LeaveLine steps ∷ []
 lines_behind_blocks place.Schedule script = ScheduleLine ∷ map StepLine script.schedule
@@ -16,7 +16,7 @@ lines_behind_blocks place.End script = ScheduleLine ∷ map StepLine script.sche
 lines_behind_blocks _ script = []
 
 -- the lines of a script so far, up to a place
-abbrev pub begun : Place → Script → List Line
+abbrev pub begun : ScriptPlace → Script → List Line
 begun p script =
     (ClayLine script.form ∷ CodeLine script.geometry ∷ [])
     ++ optional_line SizeLine script.size ++ optional_line TriesLine script.tries

@@ -5,8 +5,8 @@ use Rattle.line_grammar.specs.Line.{Line, ClayLine, CodeLine, SizeLine, TriesLin
 use Rattle.script_text.specs.Place.{next_place}
 use Rattle.script_text.specs.declared.place.LineKind.{LineKind}
 use Rattle.script_text.specs.declared.place.LineKind.TheVariants as kind
-use Rattle.script_text.specs.declared.place.Place.{Place}
-use Rattle.script_text.specs.declared.place.Place.TheVariants as place
+use Rattle.script_text.specs.declared.place.ScriptPlace.{ScriptPlace}
+use Rattle.script_text.specs.declared.place.ScriptPlace.TheVariants as place
 
 -- a line without its values
 abbrev pub kind_of : Line → LineKind
@@ -29,11 +29,11 @@ limit_of (LeaveLine n) = n
 limit_of _ = 0
 
 -- the place behind the line, if it may stand behind that place
-abbrev pub place_behind : Place → Line → Option Place
+abbrev pub place_behind : ScriptPlace → Line → Option ScriptPlace
 place_behind p l = next_place p (kind_of l) (limit_of l)
 
 -- the step limit of the call that stands next, if it has one
-abbrev pub pending : Place → Option ℕ
+abbrev pub pending : ScriptPlace → Option ℕ
 pending (place.ClientLimit steps) = Some steps
 pending (place.RepairerLimit steps) = Some steps
 pending _ = None
@@ -46,7 +46,7 @@ on_last f (x ∷ y ∷ ys) = x ∷ on_last f (y ∷ ys)
 
 -- the script with one line more: a block's first line begins a block, and a call goes to the last
 -- block, with the step limit that waits for it
-abbrev pub with_line : Place → Script → Line → Script
+abbrev pub with_line : ScriptPlace → Script → Line → Script
 with_line p script (SizeLine n) = record script { size = Some n }
 with_line p script (TriesLine n) = record script { tries = Some n }
 with_line p script ClientLine =

@@ -7,14 +7,14 @@ use Rattle.line_grammar.specs.Forms.{IsForm, IsLineOfForm}
 use Rattle.line_grammar.specs.Line.{Line, ClayLine}
 use Rattle.script_text.specs.SoFar.{IsBegun}
 use Rattle.script_text.specs.declared.place.LineKind.TheVariants as kind
-use Rattle.script_text.specs.declared.place.Place.{Place}
-use Rattle.script_text.specs.declared.place.Place.TheVariants as place
+use Rattle.script_text.specs.declared.place.ScriptPlace.{ScriptPlace}
+use Rattle.script_text.specs.declared.place.ScriptPlace.TheVariants as place
 
 -- what stands before a line: nothing, the first line, or the lines of a script so far
 pub data Front : Type 0 where
   Empty : Front
   Opened : ℕ → Front
-  Begun : Place → Script → Front
+  Begun : ScriptPlace → Script → Front
 
 -- its lines
 abbrev pub front_lines : Front → List Line

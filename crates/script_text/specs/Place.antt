@@ -2,22 +2,22 @@
 use Rattle.std.specs.Prelude.{ℕ, Option, None, Some}
 use Rattle.script_text.specs.declared.place.LineKind.{LineKind}
 use Rattle.script_text.specs.declared.place.LineKind.TheVariants as kind
-use Rattle.script_text.specs.declared.place.Place.{Place}
-use Rattle.script_text.specs.declared.place.Place.TheVariants as place
+use Rattle.script_text.specs.declared.place.ScriptPlace.{ScriptPlace}
+use Rattle.script_text.specs.declared.place.ScriptPlace.TheVariants as place
 
 -- the place behind a line that may stand where a repairer's block may begin
-abbrev pub next_repairer : LineKind → Option Place
+abbrev pub next_repairer : LineKind → Option ScriptPlace
 next_repairer kind.Repairer = Some place.Repairer
 next_repairer kind.Schedule = Some place.Schedule
 next_repairer _ = None
 
 -- the place behind a line that may stand where any block may begin
-abbrev pub next_block : LineKind → Option Place
+abbrev pub next_block : LineKind → Option ScriptPlace
 next_block kind.Client = Some place.Client
 next_block k = next_repairer k
 
 -- the place behind a line of this kind, if one may stand there; a step limit has this number
-abbrev pub next_place : Place → LineKind → ℕ → Option Place
+abbrev pub next_place : ScriptPlace → LineKind → ℕ → Option ScriptPlace
 next_place place.Code kind.Size n = Some place.Size
 next_place place.Code kind.Tries n = Some place.Tries
 next_place place.Code k n = next_block k

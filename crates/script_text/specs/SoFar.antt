@@ -5,8 +5,8 @@ use Rattle.store_map.specs.declared.script.ClientPart.{ClientPart}
 use Rattle.store_map.specs.declared.script.RepairPart.{RepairPart}
 use Rattle.store_map.specs.declared.script.Script.{Script}
 use Rattle.line_grammar.specs.Values.{IsNumber, IsScript}
-use Rattle.script_text.specs.declared.place.Place.{Place}
-use Rattle.script_text.specs.declared.place.Place.TheVariants as place
+use Rattle.script_text.specs.declared.place.ScriptPlace.{ScriptPlace}
+use Rattle.script_text.specs.declared.place.ScriptPlace.TheVariants as place
 
 -- no block and no line of the schedule
 pub record IsBare (script : Script) : Type 0 where
@@ -39,7 +39,7 @@ HasLimitedRepairer script =
     × IsSome part.leave × (script.schedule ≡ [])
 
 -- the place tells the last line
-abbrev pub IsAt : Place → Script → Type 0
+abbrev pub IsAt : ScriptPlace → Script → Type 0
 IsAt place.Code script = IsBare script × (script.size ≡ None) × (script.tries ≡ None)
 IsAt place.Size script = IsBare script × IsSome script.size × (script.tries ≡ None)
 IsAt place.Tries script = IsBare script × IsSome script.tries
@@ -53,7 +53,7 @@ IsAt place.Schedule script = ⊤
 IsAt place.End script = ⊤
 
 -- a script so far: its lines up to the place have no fault
-pub record IsBegun (p : Place) (script : Script) : Type 0 where
+pub record IsBegun (p : ScriptPlace) (script : Script) : Type 0 where
   pub at : IsAt p script
   pub values : IsScript script
   pub valid : IsValid script

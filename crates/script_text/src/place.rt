@@ -22,7 +22,7 @@ pub enum LineKind {
 
 /// The line behind which the next one stands.
 #[derive(Clone, Copy, PartialEq, Eq, Debug)]
-pub enum Place {
+pub enum ScriptPlace {
     Code,
     Size,
     Tries,
@@ -125,65 +125,65 @@ pub fn kind_named(word: &[u8]) -> Option<LineKind>
 
 /// The place behind a line of this kind, if one may stand behind that place. A step limit has this
 /// number.
-pub fn next_place(place: Place, kind: LineKind, steps: u32) -> Option<Place>
+pub fn next_place(place: ScriptPlace, kind: LineKind, steps: u32) -> Option<ScriptPlace>
     ensures { result ≡ next_place place kind steps }
 {
     match place {
-        Place::Code => match kind {
-            LineKind::Size => Some(Place::Size),
-            LineKind::Tries => Some(Place::Tries),
+        ScriptPlace::Code => match kind {
+            LineKind::Size => Some(ScriptPlace::Size),
+            LineKind::Tries => Some(ScriptPlace::Tries),
             _ => next_block(kind),
         },
-        Place::Size => match kind {
-            LineKind::Tries => Some(Place::Tries),
+        ScriptPlace::Size => match kind {
+            LineKind::Tries => Some(ScriptPlace::Tries),
             _ => next_block(kind),
         },
-        Place::Tries | Place::ClientEnd => next_block(kind),
-        Place::Client => match kind {
-            LineKind::Call => Some(Place::Client),
-            LineKind::Leave => Some(Place::ClientLimit(steps)),
+        ScriptPlace::Tries | ScriptPlace::ClientEnd => next_block(kind),
+        ScriptPlace::Client => match kind {
+            LineKind::Call => Some(ScriptPlace::Client),
+            LineKind::Leave => Some(ScriptPlace::ClientLimit(steps)),
             _ => next_block(kind),
         },
-        Place::ClientLimit(_) => match kind {
-            LineKind::Call => Some(Place::ClientEnd),
+        ScriptPlace::ClientLimit(_) => match kind {
+            LineKind::Call => Some(ScriptPlace::ClientEnd),
             _ => None,
         },
-        Place::Repairer => match kind {
-            LineKind::Rebuild => Some(Place::Repairer),
-            LineKind::Leave => Some(Place::RepairerLimit(steps)),
+        ScriptPlace::Repairer => match kind {
+            LineKind::Rebuild => Some(ScriptPlace::Repairer),
+            LineKind::Leave => Some(ScriptPlace::RepairerLimit(steps)),
             _ => next_repairer(kind),
         },
-        Place::RepairerLimit(_) => match kind {
-            LineKind::Rebuild => Some(Place::RepairerEnd),
+        ScriptPlace::RepairerLimit(_) => match kind {
+            LineKind::Rebuild => Some(ScriptPlace::RepairerEnd),
             _ => None,
         },
-        Place::RepairerEnd => next_repairer(kind),
-        Place::Schedule => match kind {
-            LineKind::Step => Some(Place::Schedule),
-            LineKind::End => Some(Place::End),
+        ScriptPlace::RepairerEnd => next_repairer(kind),
+        ScriptPlace::Schedule => match kind {
+            LineKind::Step => Some(ScriptPlace::Schedule),
+            LineKind::End => Some(ScriptPlace::End),
             _ => None,
         },
-        Place::End => None,
+        ScriptPlace::End => None,
     }
 }
 
 // The place behind a line that may stand where a repairer may begin.
-fn next_repairer(kind: LineKind) -> Option<Place>
+fn next_repairer(kind: LineKind) -> Option<ScriptPlace>
     ensures { result ≡ next_repairer kind }
 {
     match kind {
-        LineKind::Repairer => Some(Place::Repairer),
-        LineKind::Schedule => Some(Place::Schedule),
+        LineKind::Repairer => Some(ScriptPlace::Repairer),
+        LineKind::Schedule => Some(ScriptPlace::Schedule),
         _ => None,
     }
 }
 
 // The place behind a line that may stand where a client may begin.
-fn next_block(kind: LineKind) -> Option<Place>
+fn next_block(kind: LineKind) -> Option<ScriptPlace>
     ensures { result ≡ next_block kind }
 {
     match kind {
-        LineKind::Client => Some(Place::Client),
+        LineKind::Client => Some(ScriptPlace::Client),
         _ => next_repairer(kind),
     }
 }

@@ -11,7 +11,7 @@ ghost use Rattle.clay_grid.specs.Limits.{IsGeometry};
 ghost use Rattle.script_text.specs.Reader.{script_of, opened, IsSound, IsOfKind, Takes};
 
 use crate::load::Load;
-use crate::place::{LineKind, Place, kind_named, next_place};
+use crate::place::{LineKind, ScriptPlace, kind_named, next_place};
 use clay_grid::Geometry;
 use line_grammar::{
     FaultKind, is_text, read_call, read_numbered, read_rebuild, read_token, split_at_first,
@@ -31,7 +31,7 @@ const LEAVE: &[u8] = b"leave ";
 /// The script of the lines read so far, and the place behind them.
 #[derive(Drop)]
 pub struct Reader {
-    pub place: Place,
+    pub place: ScriptPlace,
     pub form: u32,
     pub geometry: Geometry,
     pub size: Option<u32>,
@@ -46,11 +46,11 @@ impl Reader {
     /// A reader behind the code line.
     pub fn new(alloc: Global, form: u32, geometry: Geometry) -> Reader
         ensures script { script_of result ≡ opened form geometry }
-        ensures place { result.place ≡ Place.Code }
+        ensures place { result.place ≡ ScriptPlace.Code }
         ensures sound { IsForm form → IsGeometry geometry → IsSound result }
     {
         Reader {
-            place: Place::Code,
+            place: ScriptPlace::Code,
             form,
             geometry,
             size: None,
@@ -64,9 +64,9 @@ impl Reader {
 
     /// Whether the line `end` was read.
     pub fn has_ended(&self) -> bool
-        ensures { IsTrue result ↔ (self.now.place ≡ Place.End) }
+        ensures { IsTrue result ↔ (self.now.place ≡ ScriptPlace.End) }
     {
-        matches!(self.place, Place::End)
+        matches!(self.place, ScriptPlace::End)
     }
 
     /// The script so far.
@@ -106,7 +106,7 @@ impl Reader {
             return Err(FaultKind::Limit);
         }
         self.size = Some(size);
-        self.place = Place::Size;
+        self.place = ScriptPlace::Size;
         Ok(())
     }
 
@@ -122,7 +122,7 @@ impl Reader {
             return Err(FaultKind::Limit);
         }
         self.tries = Some(tries);
-        self.place = Place::Tries;
+        self.place = ScriptPlace::Tries;
         Ok(())
     }
 
@@ -146,7 +146,7 @@ impl Reader {
         let Ok(()) = self.clients.push(part) else {
             return Err(FaultKind::OutOfMemory);
         };
-        self.place = Place::Client;
+        self.place = ScriptPlace::Client;
         Ok(())
     }
 
@@ -170,7 +170,7 @@ impl Reader {
         let Ok(()) = self.repairers.push(part) else {
             return Err(FaultKind::OutOfMemory);
         };
-        self.place = Place::Repairer;
+        self.place = ScriptPlace::Repairer;
         Ok(())
     }
 
@@ -199,7 +199,7 @@ impl Reader {
         if !is_text(line, b"schedule") {
             return Err(FaultKind::Syntax);
         }
-        self.place = Place::Schedule;
+        self.place = ScriptPlace::Schedule;
         Ok(())
     }
 
@@ -213,7 +213,7 @@ impl Reader {
         if !is_text(line, b"end") {
             return Err(FaultKind::Syntax);
         }
-        self.place = Place::End;
+        self.place = ScriptPlace::End;
         Ok(())
     }
 
@@ -358,11 +358,11 @@ fn first_word(line: &[u8]) -> &[u8]
 }
 
 // The step limit of the call that stands next.
-fn pending(place: Place) -> Option<u32>
+fn pending(place: ScriptPlace) -> Option<u32>
     ensures { result ≡ pending place }
 {
     match place {
-        Place::ClientLimit(steps) | Place::RepairerLimit(steps) => Some(steps),
+        ScriptPlace::ClientLimit(steps) | ScriptPlace::RepairerLimit(steps) => Some(steps),
         _ => None,
     }
 }

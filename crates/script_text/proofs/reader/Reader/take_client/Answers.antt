@@ -2,7 +2,7 @@ use Rattle.std.proofs.Common.{List, ◌∷◌, [], ◌++◌, None, length, refl,
 use Rattle.store_map.specs.declared.script.ClientPart.{ClientPart}
 use Rattle.line_grammar.specs.Line.{ClientLine}
 use Rattle.script_text.specs.Reader.{script_of}
-use Rattle.script_text.specs.declared.place.Place.TheVariants as place
+use Rattle.script_text.specs.declared.place.ScriptPlace.TheVariants as place
 use Rattle.script_text.specs.declared.reader.Reader.{Reader}
 use Rattle.script_text.proofs.ReaderLaws.{client_over, client_taken}
 use Rattle.script_text.proofs.reader.Reader.take_client.Goals as goal
