@@ -1,8 +1,8 @@
 -- The points that are kept as numbers.
 use Rattle.std.proofs.Common.{◌≡◌, List, [], refl, ap, sym, ◌∙◌}
 use Rattle.std.proofs.lemmas.List.{append-nil}
-use Rattle.dir_parts.specs.declared.passes.Kind.{Kind}
-use Rattle.dir_parts.specs.declared.passes.Kind.TheVariants as kind
+use Rattle.dir_parts.specs.declared.passes.CallKind.{CallKind}
+use Rattle.dir_parts.specs.declared.passes.CallKind.TheVariants as kind
 use Rattle.dir_parts.specs.declared.history.Answer.TheVariants as answer
 use Rattle.dir_parts.specs.declared.history.Event.{Event}
 use Rattle.dir_parts.specs.declared.history.Event.TheVariants as event
@@ -16,7 +16,7 @@ use Rattle.dir_parts.proofs.ToldActors.{actor_back}
 kind_back : ReadsBack a_kind
 kind_back = other_back number kind_to kind_from same number_back
   where
-    same : (k : Kind) → kind_from (kind_to k) ≡ k
+    same : (k : CallKind) → kind_from (kind_to k) ≡ k
     same kind.Put = refl
     same kind.Write = refl
     same kind.Get = refl

@@ -2,13 +2,13 @@
 use Rattle.store_core.specs.Note.{Note}
 use Rattle.store_core.specs.Note.{Kind as CoreKind}
 use Rattle.store_core.specs.Directory.{Pin}
-use Rattle.dir_parts.specs.declared.passes.Kind.{Kind}
-use Rattle.dir_parts.specs.declared.passes.Kind.TheVariants as kind
+use Rattle.dir_parts.specs.declared.passes.CallKind.{CallKind}
+use Rattle.dir_parts.specs.declared.passes.CallKind.TheVariants as kind
 use Rattle.dir_parts.specs.declared.passes.CallNote.TheInside.{Inside as CallNote}
 use Rattle.dir_parts.specs.declared.passes.Pinned.TheInside.{Inside as Pinned}
 
 -- a kind of call in the words of the definitions
-abbrev pub kind_in : Kind → CoreKind
+abbrev pub kind_in : CallKind → CoreKind
 kind_in kind.Put = CoreKind.Put
 kind_in kind.Write = CoreKind.Write
 kind_in kind.Get = CoreKind.Get

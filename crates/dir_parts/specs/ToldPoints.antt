@@ -3,15 +3,15 @@ use Rattle.std.specs.Prelude.{ℕ, zero, suc, List}
 use Rattle.store_map.specs.declared.actor.Actor.{Actor}
 use Rattle.dir_parts.specs.Codec.{Codec, number, both, as_other, many}
 use Rattle.dir_parts.specs.ToldActors.{an_actor}
-use Rattle.dir_parts.specs.declared.passes.Kind.{Kind}
-use Rattle.dir_parts.specs.declared.passes.Kind.TheVariants as kind
+use Rattle.dir_parts.specs.declared.passes.CallKind.{CallKind}
+use Rattle.dir_parts.specs.declared.passes.CallKind.TheVariants as kind
 use Rattle.dir_parts.specs.declared.history.Answer.TheVariants as answer
 use Rattle.dir_parts.specs.declared.history.Event.{Event}
 use Rattle.dir_parts.specs.declared.history.Event.TheVariants as event
 use Rattle.dir_parts.specs.declared.history.PointRow.{PointRow}
 use Rattle.dir_parts.specs.declared.told_points.ToldPoints.TheInside.{Inside}
 
-abbrev pub kind_to : Kind → ℕ
+abbrev pub kind_to : CallKind → ℕ
 kind_to kind.Put = 0
 kind_to kind.Write = 1
 kind_to kind.Get = 2
@@ -20,7 +20,7 @@ kind_to kind.Stat = 4
 kind_to kind.Delete = 5
 kind_to kind.Rebuild = 6
 
-abbrev pub kind_from : ℕ → Kind
+abbrev pub kind_from : ℕ → CallKind
 kind_from zero = kind.Put
 kind_from (suc zero) = kind.Write
 kind_from (suc (suc zero)) = kind.Get
@@ -29,7 +29,7 @@ kind_from (suc (suc (suc (suc zero)))) = kind.Stat
 kind_from (suc (suc (suc (suc (suc zero))))) = kind.Delete
 kind_from (suc (suc (suc (suc (suc (suc n)))))) = kind.Rebuild
 
-abbrev pub a_kind : Codec Kind
+abbrev pub a_kind : Codec CallKind
 a_kind = as_other number kind_to kind_from
 
 abbrev pub event_to : Event → ℕ × ℕ
@@ -59,7 +59,7 @@ abbrev pub an_event : Codec Event
 an_event = as_other (both number number) event_to event_from
 
 abbrev pub PointFields : Type 0
-PointFields = (Actor × ℕ) × ((Event × Kind) × (ℕ × (ℕ × ℕ)))
+PointFields = (Actor × ℕ) × ((Event × CallKind) × (ℕ × (ℕ × ℕ)))
 
 abbrev pub point_to : PointRow → PointFields
 point_to p = ((p.actor, p.number), ((p.event, p.kind), (p.name, (p.offset, p.length))))

@@ -6,7 +6,7 @@ ghost use Rattle.dir_parts.specs.Events.{reply_in, event_in};
 ghost use Rattle.dir_parts.specs.PointLog.{told_of, told_at, point_in, entry_of, spare_in, spare_after};
 ghost use Rattle.dir_parts.specs.Parts.{point_by, KeepsNames};
 
-use crate::passes::{CallNote, Kind};
+use crate::passes::{CallKind, CallNote};
 use crate::told_points::ToldPoints;
 use indexmap::IndexMap;
 use std::alloc::{AllocError, Global};
@@ -46,7 +46,7 @@ pub struct PointRow {
     pub actor: Actor,
     pub number: u32,
     pub event: Event,
-    pub kind: Kind,
+    pub kind: CallKind,
     pub name: usize,
     pub offset: u32,
     pub length: u32,

@@ -10,6 +10,6 @@ mod told_points;
 
 pub use history::{Answer, Event, History, PointEntry};
 pub use objects::{Contents, Objects};
-pub use passes::{CallNote, Kind, OpenPass, Passes, Pinned};
+pub use passes::{CallKind, CallNote, OpenPass, Passes, Pinned};
 pub use refusing::{note_of, refusal};
 pub use room::{add_look, make_room};

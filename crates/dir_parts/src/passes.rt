@@ -12,7 +12,7 @@ use store_map::{Actor, Name};
 
 /// The kinds of call.
 #[derive(Clone, Copy)]
-pub enum Kind {
+pub enum CallKind {
     Put,
     Write,
     Get,
@@ -25,7 +25,7 @@ pub enum Kind {
 /// What is kept of a call: no bytes.
 #[derive(Drop)]
 pub struct CallNote {
-    pub kind: Kind,
+    pub kind: CallKind,
     pub name: Name,
     pub offset: u32,
     pub length: u32,

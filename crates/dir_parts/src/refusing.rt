@@ -5,12 +5,12 @@ ghost use Rattle.dir_parts.specs.Events.{reply_in};
 ghost use Rattle.dir_parts.specs.Passes.{kind_in};
 
 use crate::history::Answer;
-use crate::passes::{CallNote, Kind};
+use crate::passes::{CallKind, CallNote};
 use std::alloc::AllocError;
 use store_map::{Call, Name};
 
 // A call with this name, offset and count of bytes.
-fn note(kind: Kind, name: &Name, offset: u32, length: u32) -> Result<CallNote, AllocError>
+fn note(kind: CallKind, name: &Name, offset: u32, length: u32) -> Result<CallNote, AllocError>
     ensures { IfOk result (λ note. note ≡ record { kind = kind_in kind; name = name.now; offset = offset; length = length }) }
 {
     Ok(CallNote {
@@ -26,20 +26,20 @@ pub fn note_of(call: &Call) -> Result<CallNote, AllocError>
     ensures { IfOk result (λ note. note ≡ note_of call.now) }
 {
     match call {
-        Call::Put { name, content } => note(Kind::Put, name, 0, content.length()),
+        Call::Put { name, content } => note(CallKind::Put, name, 0, content.length()),
         Call::Write {
             name,
             offset,
             content,
-        } => note(Kind::Write, name, *offset, content.length()),
-        Call::Get { name } => note(Kind::Get, name, 0, 0),
+        } => note(CallKind::Write, name, *offset, content.length()),
+        Call::Get { name } => note(CallKind::Get, name, 0, 0),
         Call::ReadAt {
             name,
             offset,
             length,
-        } => note(Kind::ReadAt, name, *offset, *length),
-        Call::Stat { name } => note(Kind::Stat, name, 0, 0),
-        Call::Delete { name } => note(Kind::Delete, name, 0, 0),
+        } => note(CallKind::ReadAt, name, *offset, *length),
+        Call::Stat { name } => note(CallKind::Stat, name, 0, 0),
+        Call::Delete { name } => note(CallKind::Delete, name, 0, 0),
     }
 }
 
@@ -74,14 +74,20 @@ fn refuse_read(max: u32, offset: u32, count: u32, length: u64) -> Option<Answer>
 }
 
 /// The reply where the map refuses a call, by the length of its object, if there is one.
-pub fn refusal(max: u32, kind: Kind, offset: u32, count: u32, found: Option<u64>) -> Option<Answer>
+pub fn refusal(
+    max: u32,
+    kind: CallKind,
+    offset: u32,
+    count: u32,
+    found: Option<u64>,
+) -> Option<Answer>
     ensures { option_map reply_in result ≡ refusal_by max (kind_in kind) offset count found }
 {
     match (kind, found) {
-        (Kind::Put, _) => refuse_size(max, u64::from(count)),
+        (CallKind::Put, _) => refuse_size(max, u64::from(count)),
         (_, None) => Some(Answer::NoSuch),
-        (Kind::Write, Some(length)) => refuse_write(max, offset, count, length),
-        (Kind::ReadAt, Some(length)) => refuse_read(max, offset, count, length),
+        (CallKind::Write, Some(length)) => refuse_write(max, offset, count, length),
+        (CallKind::ReadAt, Some(length)) => refuse_read(max, offset, count, length),
         (_, Some(_)) => None,
     }
 }

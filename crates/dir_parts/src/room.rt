@@ -5,7 +5,7 @@ ghost use Rattle.dir_parts.specs.Begun.{looked};
 
 use crate::history::{Event, History};
 use crate::objects::Objects;
-use crate::passes::{CallNote, Kind, Passes};
+use crate::passes::{CallKind, CallNote, Passes};
 use std::alloc::AllocError;
 use store_map::{Actor, Name};
 
@@ -48,7 +48,7 @@ pub fn add_look(history: &mut History, actor: Actor, number: u32, note: &CallNot
     ensures left { history.old.room ≤ history.new.room + 1 }
 {
     match note.kind {
-        Kind::Get | Kind::ReadAt => {
+        CallKind::Get | CallKind::ReadAt => {
             history.add(actor, number, note, Event::Pinned);
         }
         _ => {}

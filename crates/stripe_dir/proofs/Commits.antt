@@ -21,8 +21,8 @@ use Rattle.store_core.specs.Sound.{HasItsVersions, IsSound}
 use Rattle.version_table.specs.Counts.{may_append}
 use Rattle.dir_parts.specs.Parts.{object_or_new}
 use Rattle.dir_parts.specs.Passes.{kind_in}
-use Rattle.dir_parts.specs.declared.passes.Kind.{Kind as PartKind}
-use Rattle.dir_parts.specs.declared.passes.Kind.TheVariants as kind
+use Rattle.dir_parts.specs.declared.passes.CallKind.{CallKind}
+use Rattle.dir_parts.specs.declared.passes.CallKind.TheVariants as kind
 use Rattle.dir_parts.proofs.Actors.{find_passes}
 use Rattle.stripe_dir.specs.Installed.{installed, dropped, changed_by}
 use Rattle.stripe_dir.proofs.Ending.{closed, live_step, found_has}
@@ -84,7 +84,7 @@ dropped_is Kind.Delete d p old = refl
 dropped_is Kind.Rebuild d p old = refl
 
 -- of any call but a write
-pub installed_other : (k : PartKind) → (k ≡ kind.Write → ⊥) → (stripe : ℕ) (note : Note) (drawn : List ℕ) (old : Object) → installed (kind_in k) stripe note drawn old ≡ record { name = old.name; length = note.length; versions = drawn }
+pub installed_other : (k : CallKind) → (k ≡ kind.Write → ⊥) → (stripe : ℕ) (note : Note) (drawn : List ℕ) (old : Object) → installed (kind_in k) stripe note drawn old ≡ record { name = old.name; length = note.length; versions = drawn }
 installed_other kind.Write other stripe note drawn old = absurd (other refl)
 installed_other kind.Put other stripe note drawn old = refl
 installed_other kind.Get other stripe note drawn old = refl
@@ -93,7 +93,7 @@ installed_other kind.Stat other stripe note drawn old = refl
 installed_other kind.Delete other stripe note drawn old = refl
 installed_other kind.Rebuild other stripe note drawn old = refl
 
-pub dropped_other : (k : PartKind) → (k ≡ kind.Write → ⊥) → (stripe : ℕ) (note : Note) (drawn old : List ℕ) → dropped (kind_in k) stripe note drawn old ≡ old
+pub dropped_other : (k : CallKind) → (k ≡ kind.Write → ⊥) → (stripe : ℕ) (note : Note) (drawn old : List ℕ) → dropped (kind_in k) stripe note drawn old ≡ old
 dropped_other kind.Write other stripe note drawn old = absurd (other refl)
 dropped_other kind.Put other stripe note drawn old = refl
 dropped_other kind.Get other stripe note drawn old = refl

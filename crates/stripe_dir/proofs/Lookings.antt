@@ -19,8 +19,8 @@ use Rattle.store_core.specs.SoundPasses.{Stands}
 use Rattle.run_laws.proofs.SoundStripes.{pins_within}
 use Rattle.dir_parts.specs.Parts.{object_or_new}
 use Rattle.dir_parts.specs.Passes.{kind_in}
-use Rattle.dir_parts.specs.declared.passes.Kind.{Kind as PartKind}
-use Rattle.dir_parts.specs.declared.passes.Kind.TheVariants as kind
+use Rattle.dir_parts.specs.declared.passes.CallKind.{CallKind}
+use Rattle.dir_parts.specs.declared.passes.CallKind.TheVariants as kind
 use Rattle.dir_parts.specs.Begun.{begun_in, begins_pass, base_by, seen_in_object, looked, has_point, or_short}
 use Rattle.stripe_stamps.specs.Stripes.{pinned_of}
 use Rattle.stripe_dir.proofs.Ending.{found_has}
@@ -164,7 +164,7 @@ length_is name objects = by (find_object name objects)
     by (Some object) = refl
 
 -- the kinds that are left
-pub other_kinds : (k : PartKind) → (k ≡ kind.Stat → ⊥) → (k ≡ kind.Delete → ⊥) → (k ≡ kind.Rebuild → ⊥) → begins_pass (kind_in k) ≡ true
+pub other_kinds : (k : CallKind) → (k ≡ kind.Stat → ⊥) → (k ≡ kind.Delete → ⊥) → (k ≡ kind.Rebuild → ⊥) → begins_pass (kind_in k) ≡ true
 other_kinds kind.Put s d r = refl
 other_kinds kind.Write s d r = refl
 other_kinds kind.Get s d r = refl

@@ -17,7 +17,7 @@ use crate::directory::Directory;
 use crate::looking::Begun;
 use crate::steps::or_first;
 use crate::tokens::{Pass, Seat};
-use dir_parts::{Answer, CallNote, History, Kind, Objects, note_of, refusal};
+use dir_parts::{Answer, CallKind, CallNote, History, Objects, note_of, refusal};
 use store_map::{Call, Name, Point};
 use stripe_stamps::pinned_stripes;
 
@@ -36,16 +36,16 @@ fn point_looked_at(history: &History, note: &CallNote) -> Option<u64>
     ensures { result ≡ base_by note.now.kind (last_change note.now.name history.now.points) }
 {
     match note.kind {
-        Kind::Write => history.last_change(&note.name),
+        CallKind::Write => history.last_change(&note.name),
         _ => None,
     }
 }
 
 // Whether a look that goes on has a point.
-fn has_point(kind: Kind) -> bool
+fn has_point(kind: CallKind) -> bool
     ensures { result ≡ has_point (kind_in kind) }
 {
-    matches!(kind, Kind::Get | Kind::ReadAt)
+    matches!(kind, CallKind::Get | CallKind::ReadAt)
 }
 
 // The same point.
@@ -135,9 +135,9 @@ impl Directory {
         }
         let length = or_first(found);
         match note.kind {
-            Kind::Stat => self.answer(seat, number, note, Answer::Length(length)),
-            Kind::Delete => self.delete(seat, number, note),
-            Kind::Rebuild => unreachable!(),
+            CallKind::Stat => self.answer(seat, number, note, Answer::Length(length)),
+            CallKind::Delete => self.delete(seat, number, note),
+            CallKind::Rebuild => unreachable!(),
             _ => self.look_on(seat, number, note, length),
         }
     }

@@ -16,7 +16,7 @@ use crate::answers::Committed;
 use crate::directory::Directory;
 use crate::steps::{or_first, seat_of};
 use crate::tokens::{Pass, Seat};
-use dir_parts::{CallNote, Event, Kind, Objects, OpenPass};
+use dir_parts::{CallKind, CallNote, Event, Objects, OpenPass};
 use store_map::{Actor, Placement, Point};
 
 // Whether two points are the same, or none both times.
@@ -31,11 +31,11 @@ fn is_same(a: Option<u64>, b: Option<u64>) -> bool
 }
 
 // Whether the call is a write whose object was changed since its look.
-fn is_overtaken(kind: Kind, looked_at: Option<u64>, last: Option<u64>) -> bool
+fn is_overtaken(kind: CallKind, looked_at: Option<u64>, last: Option<u64>) -> bool
     ensures { result ≡ is_overtaken (kind_in kind) looked_at last }
 {
     match kind {
-        Kind::Write => !is_same(looked_at, last),
+        CallKind::Write => !is_same(looked_at, last),
         _ => false,
     }
 }
@@ -63,7 +63,7 @@ fn install(
         length,
     } = note;
     match kind {
-        Kind::Write => {
+        CallKind::Write => {
             let end = u64::from(offset) + u64::from(length);
             objects.write(name, end, offset / stripe_len, drawn, memory)
         }

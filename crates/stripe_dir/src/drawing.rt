@@ -18,7 +18,7 @@ ghost use Rattle.stripe_dir.specs.AnswerStamps.{stamps_given, AreDrawn};
 use crate::answers::Drawn;
 use crate::directory::Directory;
 use crate::tokens::Pass;
-use dir_parts::{Kind, OpenPass};
+use dir_parts::{CallKind, OpenPass};
 use std::alloc::{AllocError, Global};
 use store_map::Point;
 use stripe_stamps::{Drawing, Stamps, met};
@@ -47,11 +47,11 @@ fn numbers(alloc: Global, first: u64, count: u32) -> Result<Vec<u64>, AllocError
 
 // Room for an object's versions up to the last that a write draws, and for as many more, so that they seldom
 // move where an object grows by many writes; none for other calls.
-fn room_for(alloc: Global, kind: Kind, first: u32, count: u32) -> Result<Vec<u64>, AllocError>
+fn room_for(alloc: Global, kind: CallKind, first: u32, count: u32) -> Result<Vec<u64>, AllocError>
     ensures { IfOk result (λ memory. kind_in kind ≡ CoreKind.Write → first + count ≤ vec_capacity memory) }
 {
     match kind {
-        Kind::Write => {
+        CallKind::Write => {
             let needed = first as usize + count as usize;
             Vec::with_capacity(alloc, 2 * needed)
         }

@@ -13,7 +13,7 @@ use crate::answers::RepairLook;
 use crate::directory::Directory;
 use crate::looking::Begun;
 use crate::tokens::{Pass, Seat};
-use dir_parts::{CallNote, Kind, Objects};
+use dir_parts::{CallKind, CallNote, Objects};
 use store_map::Name;
 
 // How many stripes the object with this name has, none where there is no object.
@@ -51,7 +51,7 @@ impl Directory {
             return Err(seat);
         };
         let note = CallNote {
-            kind: Kind::Rebuild,
+            kind: CallKind::Rebuild,
             name: copy,
             offset: stripe,
             length: 0,

@@ -11,7 +11,7 @@ ghost use Rattle.stripe_stamps.specs.Stripes.{keeps, seen_by, pin_by, pinned_of,
 
 use crate::sealing::copy_of;
 use call_steps::Seen;
-use dir_parts::{Kind, Pinned};
+use dir_parts::{CallKind, Pinned};
 use std::alloc::{AllocError, Global};
 use version_seal::Stamp;
 use version_table::Versions;
@@ -93,7 +93,7 @@ fn partly_covered(
 /// The stripes of an object of this length that a call pins, rising.
 pub fn pinned_stripes(
     alloc: Global,
-    kind: Kind,
+    kind: CallKind,
     stripe_len: u32,
     offset: u32,
     count: u32,
@@ -105,9 +105,9 @@ pub fn pinned_stripes(
     let start = u64::from(offset);
     let end = start + u64::from(count);
     match kind {
-        Kind::Get => between(alloc, stripe_len, start, length),
-        Kind::ReadAt => between(alloc, stripe_len, start, end.min(length)),
-        Kind::Write => {
+        CallKind::Get => between(alloc, stripe_len, start, length),
+        CallKind::ReadAt => between(alloc, stripe_len, start, end.min(length)),
+        CallKind::Write => {
             let touched = between(alloc, stripe_len, start, end)?;
             partly_covered(alloc, &touched, stripe_len, length, start, end)
         }
