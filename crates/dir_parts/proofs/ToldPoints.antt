@@ -3,7 +3,7 @@ use Rattle.std.proofs.Common.{◌≡◌, List, [], refl, ap, sym, ◌∙◌}
 use Rattle.std.proofs.lemmas.List.{append-nil}
 use Rattle.dir_parts.specs.declared.passes.CallKind.{CallKind}
 use Rattle.dir_parts.specs.declared.passes.CallKind.TheVariants as kind
-use Rattle.dir_parts.specs.declared.history.Answer.TheVariants as answer
+use Rattle.dir_parts.specs.declared.history.DirectoryReply.TheVariants as answer
 use Rattle.dir_parts.specs.declared.history.Event.{Event}
 use Rattle.dir_parts.specs.declared.history.Event.TheVariants as event
 use Rattle.dir_parts.specs.declared.history.PointRow.{PointRow}

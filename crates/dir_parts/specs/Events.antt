@@ -2,13 +2,13 @@
 use Rattle.store_map.specs.declared.reply.Reply.{Reply}
 use Rattle.store_map.specs.declared.reply.Reply.TheVariants as reply
 use Rattle.store_core.specs.Directory.{Event as CoreEvent}
-use Rattle.dir_parts.specs.declared.history.Answer.{Answer}
-use Rattle.dir_parts.specs.declared.history.Answer.TheVariants as answer
+use Rattle.dir_parts.specs.declared.history.DirectoryReply.{DirectoryReply}
+use Rattle.dir_parts.specs.declared.history.DirectoryReply.TheVariants as answer
 use Rattle.dir_parts.specs.declared.history.Event.{Event}
 use Rattle.dir_parts.specs.declared.history.Event.TheVariants as event
 
 -- a reply of the directory itself, as one of the map
-abbrev pub reply_in : Answer → Reply
+abbrev pub reply_in : DirectoryReply → Reply
 reply_in answer.Done = reply.Done
 reply_in (answer.Length length) = reply.Length length
 reply_in answer.NoSuch = reply.NoSuch

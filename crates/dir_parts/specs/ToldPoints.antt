@@ -5,7 +5,7 @@ use Rattle.dir_parts.specs.Codec.{Codec, number, both, as_other, many}
 use Rattle.dir_parts.specs.ToldActors.{an_actor}
 use Rattle.dir_parts.specs.declared.passes.CallKind.{CallKind}
 use Rattle.dir_parts.specs.declared.passes.CallKind.TheVariants as kind
-use Rattle.dir_parts.specs.declared.history.Answer.TheVariants as answer
+use Rattle.dir_parts.specs.declared.history.DirectoryReply.TheVariants as answer
 use Rattle.dir_parts.specs.declared.history.Event.{Event}
 use Rattle.dir_parts.specs.declared.history.Event.TheVariants as event
 use Rattle.dir_parts.specs.declared.history.PointRow.{PointRow}

@@ -15,7 +15,7 @@ use store_map::{Actor, Name, Reply};
 
 /// What the directory itself replies to a call. None of it has bytes.
 #[derive(Clone, Copy, PartialEq, Eq, Debug)]
-pub enum Answer {
+pub enum DirectoryReply {
     Done,
     Length(u64),
     NoSuch,
@@ -26,7 +26,7 @@ pub enum Answer {
 /// What a point stands for.
 #[derive(Clone, Copy, PartialEq, Eq, Debug)]
 pub enum Event {
-    Answer(Answer),
+    Answer(DirectoryReply),
     Pinned,
     Done,
     Reaped,
@@ -74,17 +74,17 @@ impl Model for History {
     ghost invariant = { IsPointLog };
 }
 
-impl Answer {
+impl DirectoryReply {
     /// The same as a reply of the map.
     pub fn reply(self) -> Reply
         ensures { result ≡ reply_in self }
     {
         match self {
-            Answer::Done => Reply::Done,
-            Answer::Length(length) => Reply::Length(length),
-            Answer::NoSuch => Reply::NoSuch,
-            Answer::OutRange => Reply::OutRange,
-            Answer::TooLarge => Reply::TooLarge,
+            DirectoryReply::Done => Reply::Done,
+            DirectoryReply::Length(length) => Reply::Length(length),
+            DirectoryReply::NoSuch => Reply::NoSuch,
+            DirectoryReply::OutRange => Reply::OutRange,
+            DirectoryReply::TooLarge => Reply::TooLarge,
         }
     }
 }
@@ -94,7 +94,7 @@ fn is_change(event: Event) -> bool
     ensures { result ≡ is_change (event_in event) }
 {
     match event {
-        Event::Answer(Answer::Done) | Event::Done => true,
+        Event::Answer(DirectoryReply::Done) | Event::Done => true,
         _ => false,
     }
 }

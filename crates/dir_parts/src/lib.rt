@@ -8,7 +8,7 @@ mod refusing;
 mod room;
 mod told_points;
 
-pub use history::{Answer, Event, History, PointEntry};
+pub use history::{DirectoryReply, Event, History, PointEntry};
 pub use objects::{Contents, Objects};
 pub use passes::{CallKind, CallNote, OpenPass, Passes, Pinned};
 pub use refusing::{note_of, refusal};

@@ -4,7 +4,7 @@ ghost use Rattle.store_core.specs.Note.{Kind as CoreKind, note_of, refusal_of_si
 ghost use Rattle.dir_parts.specs.Events.{reply_in};
 ghost use Rattle.dir_parts.specs.Passes.{kind_in};
 
-use crate::history::Answer;
+use crate::history::DirectoryReply;
 use crate::passes::{CallKind, CallNote};
 use std::alloc::AllocError;
 use store_map::{Call, Name};
@@ -44,31 +44,31 @@ pub fn note_of(call: &Call) -> Result<CallNote, AllocError>
 }
 
 // Too large for an object of at most `max` bytes.
-fn refuse_size(max: u32, count: u64) -> Option<Answer>
+fn refuse_size(max: u32, count: u64) -> Option<DirectoryReply>
     ensures { option_map reply_in result ≡ refusal_of_size max count }
 {
     if u64::from(max) < count {
-        return Some(Answer::TooLarge);
+        return Some(DirectoryReply::TooLarge);
     }
     None
 }
 
 // The reply where the map refuses a write to an object of this length.
-fn refuse_write(max: u32, offset: u32, count: u32, length: u64) -> Option<Answer>
+fn refuse_write(max: u32, offset: u32, count: u32, length: u64) -> Option<DirectoryReply>
     ensures { option_map reply_in result ≡ refusal_by max CoreKind.Write offset count (Some length) }
 {
     if length < u64::from(offset) {
-        return Some(Answer::OutRange);
+        return Some(DirectoryReply::OutRange);
     }
     refuse_size(max, u64::from(offset) + u64::from(count))
 }
 
 // The same of a read.
-fn refuse_read(max: u32, offset: u32, count: u32, length: u64) -> Option<Answer>
+fn refuse_read(max: u32, offset: u32, count: u32, length: u64) -> Option<DirectoryReply>
     ensures { option_map reply_in result ≡ refusal_by max CoreKind.ReadAt offset count (Some length) }
 {
     if length < u64::from(offset) {
-        return Some(Answer::OutRange);
+        return Some(DirectoryReply::OutRange);
     }
     None
 }
@@ -80,12 +80,12 @@ pub fn refusal(
     offset: u32,
     count: u32,
     found: Option<u64>,
-) -> Option<Answer>
+) -> Option<DirectoryReply>
     ensures { option_map reply_in result ≡ refusal_by max (kind_in kind) offset count found }
 {
     match (kind, found) {
         (CallKind::Put, _) => refuse_size(max, u64::from(count)),
-        (_, None) => Some(Answer::NoSuch),
+        (_, None) => Some(DirectoryReply::NoSuch),
         (CallKind::Write, Some(length)) => refuse_write(max, offset, count, length),
         (CallKind::ReadAt, Some(length)) => refuse_read(max, offset, count, length),
         (_, Some(_)) => None,

@@ -17,7 +17,7 @@ use crate::directory::Directory;
 use crate::looking::Begun;
 use crate::steps::or_first;
 use crate::tokens::{Pass, Seat};
-use dir_parts::{Answer, CallKind, CallNote, History, Objects, note_of, refusal};
+use dir_parts::{CallKind, CallNote, DirectoryReply, History, Objects, note_of, refusal};
 use store_map::{Call, Name, Point};
 use stripe_stamps::pinned_stripes;
 
@@ -135,7 +135,7 @@ impl Directory {
         }
         let length = or_first(found);
         match note.kind {
-            CallKind::Stat => self.answer(seat, number, note, Answer::Length(length)),
+            CallKind::Stat => self.answer(seat, number, note, DirectoryReply::Length(length)),
             CallKind::Delete => self.delete(seat, number, note),
             CallKind::Rebuild => unreachable!(),
             _ => self.look_on(seat, number, note, length),

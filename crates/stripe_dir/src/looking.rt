@@ -22,7 +22,7 @@ use crate::answers::Look;
 use crate::directory::Directory;
 use crate::tokens::Seat;
 use call_steps::Seen;
-use dir_parts::{Answer, CallNote, Event, Objects, OpenPass, add_look, make_room};
+use dir_parts::{CallNote, DirectoryReply, Event, Objects, OpenPass, add_look, make_room};
 use std::alloc::{AllocError, Global};
 use std::snapshot::Snapshot;
 use store_map::{Actor, Name, Point};
@@ -132,7 +132,7 @@ impl Directory {
         seat: Seat,
         number: u32,
         note: CallNote,
-        reply: Answer,
+        reply: DirectoryReply,
     ) -> Result<Look, Seat>
         requires whole { IsWhole (append_point seat.actor number note (CoreEvent.Answer (reply_in reply)) self.old.core) }
         ensures step { LooksTo (answer seat.actor number note self.old.core (reply_in reply) self.old.core) self.old self.new result }
@@ -190,9 +190,12 @@ impl Directory {
             return Err(seat);
         }
         remove_object(&mut self.objects, &mut self.versions, &note.name);
-        let point = self
-            .history
-            .add(seat.actor, number, &note, Event::Answer(Answer::Done));
+        let point = self.history.add(
+            seat.actor,
+            number,
+            &note,
+            Event::Answer(DirectoryReply::Done),
+        );
         let Seat {
             actor,
             unused: _,
@@ -205,7 +208,7 @@ impl Directory {
                 told: Some(point),
             },
             point: Point(point),
-            reply: Answer::Done.reply(),
+            reply: DirectoryReply::Done.reply(),
         })
     }
 }
