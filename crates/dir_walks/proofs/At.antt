@@ -20,8 +20,8 @@ use Rattle.stripe_dir.specs.declared.answers.Committed.TheVariants as commit
 use Rattle.stripe_dir.specs.declared.answers.Ended.{Ended}
 use Rattle.stripe_dir.specs.declared.answers.Ended.TheVariants as end
 use Rattle.stripe_dir.specs.Answers.{told_look, told_drawn, told_committed, told_ended}
-use Rattle.dir_walks.specs.declared.stage.Stage.{Stage}
-use Rattle.dir_walks.specs.declared.stage.Stage.TheVariants as stage
+use Rattle.dir_walks.specs.declared.stage.WalkStage.{WalkStage}
+use Rattle.dir_walks.specs.declared.stage.WalkStage.TheVariants as stage
 use Rattle.dir_walks.specs.Callers.{CallerOf, IsBegun, IsDrawn, IsAt, is_seated}
 use Rattle.dir_walks.specs.After.{writes, stage_after_look, stage_after_draw, drawn_by, unused_after_commit}
 use Rattle.dir_walks.proofs.Goes.{to_write, writing}
@@ -40,7 +40,7 @@ module _ (book : BookOf) (c : CallerOf) where
   drawn (ActorToken.Seated seat) at = absurd at
   drawn (ActorToken.InCall held) at = (held, refl, at)
 
-  pub in_call : (its : Stage) (t : ActorToken) → is_seated its ≡ false → IsAt book c its t → (held : HeldPass) × (t ≡ ActorToken.InCall held) × (held.pass.number ≡ c.number)
+  pub in_call : (its : WalkStage) (t : ActorToken) → is_seated its ≡ false → IsAt book c its t → (held : HeldPass) × (t ≡ ActorToken.InCall held) × (held.pass.number ≡ c.number)
   in_call stage.Seated t other at = absurd (true≢false other)
   in_call stage.Reading (ActorToken.Seated seat) other at = absurd at
   in_call stage.Reading (ActorToken.InCall held) other at = (held, refl, at)

@@ -1,6 +1,6 @@
 -- The directory's agreement with an actor and with all others goes on with the actor's steps.
-use Rattle.std.proofs.Common.{◌≡◌, ◌≢◌, ◌⊎◌, ℕ, Bool, true, false, IsTrue, Some, refl, sym, ap, subst, ◌∙◌, inl, inr}
-use Rattle.std.proofs.lemmas.Bool.{true≢false, false≢true}
+use Rattle.std.proofs.Common.{◌≡◌, ◌⊎◌, ℕ, Bool, true, false, IsTrue, Some, refl, sym, ap, subst, ◌∙◌, inl, inr}
+use Rattle.std.proofs.lemmas.Bool.{false≢true}
 use Rattle.store_map.specs.declared.actor.Actor.{Actor}
 use Rattle.store_map.specs.declared.actor.Actor.TheVariants as actor
 use Rattle.store_map.specs.declared.call.Call.{Call}
@@ -9,7 +9,6 @@ use Rattle.store_core.specs.Told.{Told}
 use Rattle.store_core.specs.Note.{Kind, note_of}
 use Rattle.store_core.specs.Act.{DirectoryStep}
 use Rattle.store_core.specs.AtDirectory.{at_directory}
-use Rattle.store_core.specs.Conditions.{IsOfClient}
 use Rattle.store_core.specs.Directory.{Directory}
 use Rattle.store_core.specs.Lookups.{same_actor}
 use Rattle.store_core.specs.Agreement.{Agrees}
@@ -19,29 +18,11 @@ use Rattle.version_seal.specs.Entry.{BookOf, is_writing}
 use Rattle.stripe_stamps.specs.Sealed.{Sealed}
 use Rattle.call_steps.specs.TokenAfter.{token_after}
 use Rattle.call_steps.proofs.Tokens.{tokens_stay}
-use Rattle.dir_walks.specs.Callers.{CallerOf, IsAt, IsRight, OthersAgree, Steps, is_client}
+use Rattle.dir_walks.specs.Callers.{CallerOf, IsAt, IsRight, OthersAgree, Steps}
 use Rattle.dir_walks.specs.After.{writes}
 use Rattle.dir_walks.specs.Stores.{StoreOf, IsStore}
 
--- ---- whose calls these are
-abbrev is_rebuild : Kind → Bool
-is_rebuild Kind.Rebuild = true
-is_rebuild k = false
-
-other : (k : Kind) → is_rebuild k ≡ false → k ≢ Kind.Rebuild
-other k different e = true≢false (sym (ap is_rebuild e) ∙ different)
-
-pub of_client : (who : Actor) → is_client who ≡ true → (c : Call) → IsOfClient who (note_of c)
-of_client (actor.Client i) h (call.Put name content) = inr (inr (other Kind.Put refl, refl))
-of_client (actor.Client i) h (call.Write name offset content) = inl refl
-of_client (actor.Client i) h (call.Get name) = inr (inr (other Kind.Get refl, refl))
-of_client (actor.Client i) h (call.ReadAt name offset count) = inr (inl refl)
-of_client (actor.Client i) h (call.Stat name) = inr (inr (other Kind.Stat refl, refl))
-of_client (actor.Client i) h (call.Delete name) = inr (inr (other Kind.Delete refl, refl))
-of_client (actor.Repairer i) h c = absurd (false≢true h)
-of_client actor.Sweeper h c = absurd (false≢true h)
-of_client actor.Operator h c = absurd (false≢true h)
-
+-- ---- calls that write
 pub to_write : (c : Call) → writes c ≡ true → ((note_of c).kind ≡ Kind.Put) ⊎ ((note_of c).kind ≡ Kind.Write)
 to_write (call.Put name content) h = inl refl
 to_write (call.Write name offset content) h = inr refl
@@ -80,10 +61,6 @@ module _ (s after : Sealed) (c now : CallerOf) (short : Bool) (number : ℕ) (st
         others =
             subst (λ (who : Actor). OthersAgree who s.core after.core) right.its (others_agree short (actor_of c.token) number step s.core after.core told made);
       }
-
--- no step
-pub stays : (s : Sealed) (c : CallerOf) → IsRight s c → Steps s c s c
-stays s c right = record { right = right; same = refl; book = refl; others = λ token apart agrees. agrees }
 
 -- ---- steps of others
 pub stays_right : (s after : Sealed) (who : Actor) (c : CallerOf) → OthersAgree who s.core after.core → after.book ≡ s.book → same_actor who c.who ≡ false → IsRight s c → IsRight after c

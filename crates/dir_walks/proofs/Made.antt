@@ -19,8 +19,8 @@ use Rattle.stripe_dir.specs.declared.answers.Look.{Look}
 use Rattle.stripe_dir.specs.declared.answers.Drawn.{Drawn}
 use Rattle.stripe_dir.specs.declared.answers.Committed.{Committed}
 use Rattle.stripe_dir.specs.declared.answers.Ended.{Ended}
-use Rattle.dir_walks.specs.declared.stage.Stage.{Stage}
-use Rattle.dir_walks.specs.declared.stage.Stage.TheVariants as stage
+use Rattle.dir_walks.specs.declared.stage.WalkStage.{WalkStage}
+use Rattle.dir_walks.specs.declared.stage.WalkStage.TheVariants as stage
 use Rattle.dir_walks.specs.Callers.{CallerOf, IsBegun, IsDrawn, IsAt, IsRight, Steps, is_seated}
 use Rattle.dir_walks.specs.After.{stage_after_look, stage_after_draw, drawn_by, unused_after_commit}
 use Rattle.dir_walks.proofs.At.{seated, begun, drawn, in_call, at_end, at_commit, at_draw, at_look}
@@ -49,7 +49,7 @@ module _ (s after : Sealed) (c : CallerOf) (right : IsRight s c) (token : ActorT
   pub commit_steps : (step : DirectoryStep) (answer : Committed ⊤) (unused : ℕ) → c.stage ≡ stage.Drawn → unused ≡ unused_after_commit c.number answer
       → (after.core, told_committed answer) ≡ at_directory false (actor_of c.token) c.number step s.core → token ≡ token_after c.token c.number step (told_committed answer)
       → Steps s c after (record { who = c.who; token = token; stage = stage.Seated; number = c.number; unused = unused; drawn = c.drawn; request = c.request })
-  commit_steps step answer unused staged same made is = by (drawn s.book c c.token (subst (λ (st : Stage). IsAt s.book c st c.token) staged right.at))
+  commit_steps step answer unused staged same made is = by (drawn s.book c c.token (subst (λ (st : WalkStage). IsAt s.book c st c.token) staged right.at))
     where
       now : CallerOf
       now = record { who = c.who; token = token; stage = stage.Seated; number = c.number; unused = unused; drawn = c.drawn; request = c.request }
@@ -59,11 +59,11 @@ module _ (s after : Sealed) (c : CallerOf) (right : IsRight s c) (token : ActorT
           to now false c.number step (told_committed answer) refl refl (ActorToken.InCall held) is_held made is
           (at_commit s.book now held answer (same ∙ ap (λ n. unused_after_commit n answer) (sym its.numbered)))
 
-  pub draw_steps : (answer : Drawn ⊤ ⊤) (its : Stage) (count unused : ℕ) → c.stage ≡ stage.Begun → s.book.geometry ≡ s.core.shape → its ≡ stage_after_draw answer → count ≡ drawn_by answer → unused ≡ c.number
+  pub draw_steps : (answer : Drawn ⊤ ⊤) (its : WalkStage) (count unused : ℕ) → c.stage ≡ stage.Begun → s.book.geometry ≡ s.core.shape → its ≡ stage_after_draw answer → count ≡ drawn_by answer → unused ≡ c.number
       → (request : Option RequestOf) → ((held : HeldPass) → c.token ≡ ActorToken.InCall held → IfDrawn s held request answer)
       → (after.core, told_drawn answer) ≡ at_directory false (actor_of c.token) c.number DirectoryStep.Draw s.core → token ≡ token_after c.token c.number DirectoryStep.Draw (told_drawn answer)
       → Steps s c after (record { who = c.who; token = token; stage = its; number = c.number; unused = unused + 1; drawn = count; request = c.request })
-  draw_steps answer its count unused staged code its_is counted same request if_drawn made is = by (begun s.book c c.token (subst (λ (st : Stage). IsAt s.book c st c.token) staged right.at))
+  draw_steps answer its count unused staged code its_is counted same request if_drawn made is = by (begun s.book c c.token (subst (λ (st : WalkStage). IsAt s.book c st c.token) staged right.at))
     where
       now : CallerOf
       now = record { who = c.who; token = token; stage = its; number = c.number; unused = unused + 1; drawn = count; request = c.request }
@@ -71,17 +71,17 @@ module _ (s after : Sealed) (c : CallerOf) (right : IsRight s c) (token : ActorT
       by : ((held : HeldPass) × (c.token ≡ ActorToken.InCall held) × IsBegun s.book c held) → Steps s c after now
       by (held, is_held, has) =
           to now false c.number DirectoryStep.Draw (told_drawn answer) refl refl (ActorToken.InCall held) is_held made is
-          (subst (λ (st : Stage). IsAt s.book now st (token_after (ActorToken.InCall held) c.number DirectoryStep.Draw (told_drawn answer))) (sym its_is)
+          (subst (λ (st : WalkStage). IsAt s.book now st (token_after (ActorToken.InCall held) c.number DirectoryStep.Draw (told_drawn answer))) (sym its_is)
           (at_draw s.book now held answer has.numbered has.writes counted
           (λ stamps versions.
           (subst (IfDrawn s held request) versions (if_drawn held is_held)).count ∙ ap (λ (g : Shape). length (stripes_between g held.pass.note.offset (held.pass.note.offset + held.pass.note.length))) (sym code))
           (let numbered : held.pass.number ≡ c.number = has.numbered in omega (arith, numbered, same))))
 
-  pub look_steps : (call : Call) (answer : Look ⊤ ⊤) (its : Stage) (number unused : ℕ) (request : RequestOf) → c.stage ≡ stage.Seated → its ≡ stage_after_look call answer → unused ≡ number
+  pub look_steps : (call : Call) (answer : Look ⊤ ⊤) (its : WalkStage) (number unused : ℕ) (request : RequestOf) → c.stage ≡ stage.Seated → its ≡ stage_after_look call answer → unused ≡ number
       → request ≡ record { home = s.book.home; actor = c.who; number = number; call = call } → s.book.script ≡ None
       → (after.core, told_look answer) ≡ at_directory false (actor_of c.token) number (DirectoryStep.Look (note_of call)) s.core → token ≡ token_after c.token number (DirectoryStep.Look (note_of call)) (told_look answer)
       → Steps s c after (record { who = c.who; token = token; stage = its; number = number; unused = unused + 1; drawn = c.drawn; request = Some request })
-  look_steps call answer its number unused request staged its_is same requested free made is = by (seated s.book c c.token (subst (λ (st : Stage). IsAt s.book c st c.token) staged right.at))
+  look_steps call answer its number unused request staged its_is same requested free made is = by (seated s.book c c.token (subst (λ (st : WalkStage). IsAt s.book c st c.token) staged right.at))
     where
       now : CallerOf
       now = record { who = c.who; token = token; stage = its; number = number; unused = unused + 1; drawn = c.drawn; request = Some request }
@@ -89,6 +89,6 @@ module _ (s after : Sealed) (c : CallerOf) (right : IsRight s c) (token : ActorT
       by : ((seat : Seat) × (c.token ≡ ActorToken.Seated seat) × (seat.unused ≤ c.unused)) → Steps s c after now
       by (seat, is_seat, unused_is) =
           to now false number (DirectoryStep.Look (note_of call)) (told_look answer) refl refl (ActorToken.Seated seat) is_seat made is
-          (subst (λ (st : Stage). IsAt s.book now st (token_after (ActorToken.Seated seat) number (DirectoryStep.Look (note_of call)) (told_look answer))) (sym its_is)
+          (subst (λ (st : WalkStage). IsAt s.book now st (token_after (ActorToken.Seated seat) number (DirectoryStep.Look (note_of call)) (told_look answer))) (sym its_is)
           (at_look s.book now seat call request refl (ap (λ (r : RequestOf). r.home) requested) (ap (λ (r : RequestOf). r.actor) requested ∙ sym right.its ∙ ap actor_of is_seat) (ap (λ (r : RequestOf). r.number) requested)
           (ap (λ (r : RequestOf). r.call) requested) free answer (omega (arith, same))))

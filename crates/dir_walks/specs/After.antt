@@ -8,8 +8,8 @@ use Rattle.stripe_dir.specs.declared.answers.Drawn.{Drawn}
 use Rattle.stripe_dir.specs.declared.answers.Drawn.TheVariants as draw
 use Rattle.stripe_dir.specs.declared.answers.Committed.{Committed}
 use Rattle.stripe_dir.specs.declared.answers.Committed.TheVariants as commit
-use Rattle.dir_walks.specs.declared.stage.Stage.{Stage}
-use Rattle.dir_walks.specs.declared.stage.Stage.TheVariants as stage
+use Rattle.dir_walks.specs.declared.stage.WalkStage.{WalkStage}
+use Rattle.dir_walks.specs.declared.stage.WalkStage.TheVariants as stage
 
 -- a put or a write
 abbrev pub writes : Call → Bool
@@ -17,11 +17,11 @@ writes (call.Put name content) = true
 writes (call.Write name offset content) = true
 writes its = false
 
-abbrev pub stage_after_look : Call → Look ⊤ ⊤ → Stage
+abbrev pub stage_after_look : Call → Look ⊤ ⊤ → WalkStage
 stage_after_look its (look.Answer seat point reply) = stage.Seated
 stage_after_look its answer = if writes its then stage.Begun else stage.Reading
 
-abbrev pub stage_after_draw : Drawn ⊤ ⊤ → Stage
+abbrev pub stage_after_draw : Drawn ⊤ ⊤ → WalkStage
 stage_after_draw (draw.Versions pass stamps) = stage.Drawn
 stage_after_draw (draw.Reaped seat at) = stage.Seated
 

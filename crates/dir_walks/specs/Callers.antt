@@ -10,14 +10,14 @@ use Rattle.store_core.specs.Agreement.{HeldPass, ActorToken, Agrees}
 use Rattle.store_core.specs.Tokens.{actor_of, IsToWrite}
 use Rattle.version_seal.specs.Entry.{BookOf, RequestOf}
 use Rattle.stripe_stamps.specs.Sealed.{Sealed, CanSeal}
-use Rattle.dir_walks.specs.declared.stage.Stage.{Stage}
-use Rattle.dir_walks.specs.declared.stage.Stage.TheVariants as stage
+use Rattle.dir_walks.specs.declared.stage.WalkStage.{WalkStage}
+use Rattle.dir_walks.specs.declared.stage.WalkStage.TheVariants as stage
 
 -- an actor, its ticket and where it is; the number of its last call, the least one that is unused, how many versions it has drawn, and its put or write
 pub record CallerOf : Type 0 where
   pub who : Actor
   pub token : ActorToken
-  pub stage : Stage
+  pub stage : WalkStage
   pub number : ℕ
   pub unused : ℕ
   pub drawn : ℕ
@@ -38,7 +38,7 @@ pub record IsDrawn (g : Shape) (c : CallerOf) (held : HeldPass) : Type 0 where
   pub counted : c.drawn ≡ length held.pass.drawn
 
 -- the ticket is one of the stage
-abbrev pub IsAt : BookOf → CallerOf → Stage → ActorToken → Type 0
+abbrev pub IsAt : BookOf → CallerOf → WalkStage → ActorToken → Type 0
 IsAt book c stage.Seated (ActorToken.Seated seat) = seat.unused ≤ c.unused
 IsAt book c stage.Reading (ActorToken.InCall held) = held.pass.number ≡ c.number
 IsAt book c stage.Begun (ActorToken.InCall held) = IsBegun book c held
@@ -72,6 +72,6 @@ abbrev pub is_client : Actor → Bool
 is_client (actor.Client i) = true
 is_client who = false
 
-abbrev pub is_seated : Stage → Bool
+abbrev pub is_seated : WalkStage → Bool
 is_seated stage.Seated = true
 is_seated its = false

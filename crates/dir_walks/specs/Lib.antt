@@ -1,11 +1,6 @@
-pub mod Small
 pub mod Callers
 pub mod Opened
 pub mod After
 pub mod Inside
 pub mod Stores
 pub mod StoreInside
-pub mod Begun
-pub mod StripePut
-pub mod Shelf
-pub mod ShelfInside

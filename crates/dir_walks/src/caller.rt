@@ -1,21 +1,19 @@
 //! An actor with its ticket, and its steps at the directory, each where the actor may make it.
 
-ghost use Rattle.std.specs.Prelude.{◌≡◌, IfOk};
+ghost use Rattle.std.specs.Prelude.{◌≡◌};
 ghost use Rattle.store_core.specs.Agreement.{ActorToken};
 ghost use Rattle.dir_walks.specs.Callers.{IsReady, Steps, is_seated};
-ghost use Rattle.dir_tickets.specs.TicketSteps.{DrewBy};
-ghost use Rattle.dir_walks.specs.Begun.{IfBegun};
 ghost use Rattle.dir_walks.specs.Opened.{new_caller};
 
 use crate::placing::rows;
 use crate::stage::{
-    Stage, drawn_by, is_client, stage_after_draw, stage_after_look, unused_after_commit,
+    WalkStage, drawn_by, is_client, stage_after_draw, stage_after_look, unused_after_commit,
 };
 use dir_tickets::Ticket;
 use std::alloc::{AllocError, Global};
 use std::marker::Model;
 use store_map::{Actor, Call};
-use stripe_dir::{Committed, Directory, Drawn, Ended, Look, Seat};
+use stripe_dir::{Directory, Seat};
 use version_seal::{Book, Request};
 
 /// A step of an actor at the directory.
@@ -27,17 +25,8 @@ pub enum Step<'a> {
     End,
 }
 
-/// What it is answered.
-#[derive(Drop)]
-pub enum Answer {
-    Look(Look<(), ()>),
-    Draw(Drawn<(), ()>),
-    Commit(Committed<()>),
-    End(Ended<()>),
-}
-
 /// Why no step is made.
-#[derive(Clone, Copy, PartialEq, Eq, Debug, Drop)]
+#[derive(Clone, Copy, Debug, Drop)]
 pub enum Refusal {
     /// The actor may not make it now.
     NotNow,
@@ -54,7 +43,7 @@ impl From<AllocError> for Refusal {
 pub struct Caller {
     who: Actor,
     ticket: Ticket,
-    stage: Stage,
+    stage: WalkStage,
     // of its last call
     number: u32,
     // from this one on all are
@@ -83,7 +72,7 @@ impl Caller {
         Caller {
             who,
             ticket: Ticket::new(seat),
-            stage: Stage::Seated,
+            stage: WalkStage::Seated,
             number: 0,
             unused: 0,
             drawn: 0,
@@ -108,22 +97,21 @@ impl Caller {
     fn is_seated(&self) -> bool
         ensures { result ≡ is_seated self.now.stage }
     {
-        matches!(self.stage, Stage::Seated)
+        matches!(self.stage, WalkStage::Seated)
     }
 
-    /// Begins a client's call, where it is in none.
-    pub fn look(
+    // Begins a client's call, where it is in none.
+    fn look(
         &mut self,
         directory: &mut Directory,
         book: &Book,
         number: u32,
         call: &Call,
-    ) -> Result<Look<(), ()>, Refusal>
+    ) -> Result<(), Refusal>
         requires ready { IsReady book.now directory.old self.old }
         ensures steps { Steps directory.old self.old directory.new self.new }
-        ensures begun { IfOk result (λ answer. IfBegun book.now.home call.now number answer self.new) }
     {
-        let Stage::Seated = self.stage else {
+        let WalkStage::Seated = self.stage else {
             return Err(Refusal::NotNow);
         };
         if u64::from(number) < self.unused || !is_client(self.who) {
@@ -134,16 +122,15 @@ impl Caller {
         self.number = number;
         self.unused = u64::from(number) + 1;
         self.request = Some(book.request(self.who, number, call));
-        Ok(answer)
+        Ok(())
     }
 
-    /// Draws the versions of a put or a write that has begun.
-    pub fn draw(&mut self, directory: &mut Directory, book: &Book) -> Result<Drawn<(), ()>, Refusal>
+    // Draws the versions of a put or a write that has begun.
+    fn draw(&mut self, directory: &mut Directory, book: &Book) -> Result<(), Refusal>
         requires ready { IsReady book.now directory.old self.old }
         ensures steps { Steps directory.old self.old directory.new self.new }
-        ensures drawn { DrewBy directory.old self.old.token self.old.request result }
     {
-        let Stage::Begun = self.stage else {
+        let WalkStage::Begun = self.stage else {
             return Err(Refusal::NotNow);
         };
         directory.keeps();
@@ -153,7 +140,7 @@ impl Caller {
         self.stage = stage_after_draw(&answer);
         self.drawn = drawn_by(&answer);
         self.unused = u64::from(self.number) + 1;
-        Ok(answer)
+        Ok(())
     }
 
     fn commit(
@@ -161,23 +148,23 @@ impl Caller {
         directory: &mut Directory,
         book: &Book,
         alloc: Global,
-    ) -> Result<Committed<()>, Refusal>
+    ) -> Result<(), Refusal>
         requires ready { IsReady book.now directory.old self.old }
         ensures steps { Steps directory.old self.old directory.new self.new }
     {
         let _ = book;
-        let Stage::Drawn = self.stage else {
+        let WalkStage::Drawn = self.stage else {
             return Err(Refusal::NotNow);
         };
         directory.keeps();
         let placed = rows(alloc, directory.geometry(), self.drawn)?;
         let answer = self.ticket.commit(directory, self.number, placed);
-        self.stage = Stage::Seated;
+        self.stage = WalkStage::Seated;
         self.unused = unused_after_commit(&answer, self.number);
-        Ok(answer)
+        Ok(())
     }
 
-    fn end(&mut self, directory: &mut Directory, book: &Book) -> Result<Ended<()>, Refusal>
+    fn end(&mut self, directory: &mut Directory, book: &Book) -> Result<(), Refusal>
         requires ready { IsReady book.now directory.old self.old }
         ensures steps { Steps directory.old self.old directory.new self.new }
     {
@@ -186,9 +173,10 @@ impl Caller {
             return Err(Refusal::NotNow);
         }
         let answer = self.ticket.end(directory, self.number);
-        self.stage = Stage::Seated;
+        drop(answer);
+        self.stage = WalkStage::Seated;
         self.unused = u64::from(self.number) + 1;
-        Ok(answer)
+        Ok(())
     }
 
     /// Makes a step, where the actor may.
@@ -198,17 +186,15 @@ impl Caller {
         book: &Book,
         alloc: Global,
         step: Step<'_>,
-    ) -> Result<Answer, Refusal>
+    ) -> Result<(), Refusal>
         requires ready { IsReady book.now directory.old self.old }
         ensures steps { Steps directory.old self.old directory.new self.new }
     {
         match step {
-            Step::Look { number, call } => {
-                self.look(directory, book, number, call).map(Answer::Look)
-            }
-            Step::Draw => self.draw(directory, book).map(Answer::Draw),
-            Step::Commit => self.commit(directory, book, alloc).map(Answer::Commit),
-            Step::End => self.end(directory, book).map(Answer::End),
+            Step::Look { number, call } => self.look(directory, book, number, call),
+            Step::Draw => self.draw(directory, book),
+            Step::Commit => self.commit(directory, book, alloc),
+            Step::End => self.end(directory, book),
         }
     }
 }

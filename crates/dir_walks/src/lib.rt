@@ -3,9 +3,6 @@
 #![tactic(auto)]
 
 pub mod caller;
-pub mod opening;
 pub mod placing;
-pub mod shelf;
 pub mod stage;
 pub mod store;
-pub mod stripe;

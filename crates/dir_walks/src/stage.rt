@@ -8,8 +8,8 @@ use store_map::{Actor, Call};
 use stripe_dir::{Committed, Drawn, Look};
 
 /// Where an actor is in its calls.
-#[derive(Clone, Copy, PartialEq, Eq, Debug)]
-pub enum Stage {
+#[derive(Clone, Copy)]
+pub enum WalkStage {
     Seated,
     /// A get or a read has begun.
     Reading,
@@ -34,26 +34,26 @@ fn writes(call: &Call) -> bool
 }
 
 /// After a look of a call.
-pub fn stage_after_look(answer: &Look<(), ()>, call: &Call) -> Stage
+pub fn stage_after_look(answer: &Look<(), ()>, call: &Call) -> WalkStage
     ensures { result ≡ stage_after_look call.now answer.now }
 {
     if matches!(answer, Look::Answer { .. }) {
-        return Stage::Seated;
+        return WalkStage::Seated;
     }
     if writes(call) {
-        Stage::Begun
+        WalkStage::Begun
     } else {
-        Stage::Reading
+        WalkStage::Reading
     }
 }
 
 /// After a draw.
-pub fn stage_after_draw(answer: &Drawn<(), ()>) -> Stage
+pub fn stage_after_draw(answer: &Drawn<(), ()>) -> WalkStage
     ensures { result ≡ stage_after_draw answer.now }
 {
     match answer {
-        Drawn::Versions { .. } => Stage::Drawn,
-        Drawn::Reaped { .. } => Stage::Seated,
+        Drawn::Versions { .. } => WalkStage::Drawn,
+        Drawn::Reaped { .. } => WalkStage::Seated,
     }
 }
 

@@ -16,6 +16,8 @@ mod shelf;
 mod strays;
 #[cfg(test)]
 mod versions;
+#[cfg(test)]
+mod walk;
 
 #[cfg(test)]
 use std::test::Fail;

@@ -1,8 +1,8 @@
 //! Puts of which one may want memory: the others are done. `checks/allocations store_tests` runs them with each allocation
 //! refused in turn.
 
+use crate::sealing::small_geometry;
 use dir_walks::caller::Step;
-use dir_walks::opening::small_geometry;
 use dir_walks::store::Store;
 use std::alloc::Global;
 use std::test::Fail;

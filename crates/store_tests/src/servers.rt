@@ -11,7 +11,7 @@ use version_seal::Book;
 
 /// A step with versions by their numbers.
 #[derive(Clone, Copy)]
-enum Step<'a> {
+pub enum Step<'a> {
     /// Is placed so.
     Prepare(u64, Placement),
     /// This is told.
@@ -33,18 +33,6 @@ enum Step<'a> {
     HeldAt(usize, u64),
     /// It has no chunk at this place.
     Ends(usize),
-}
-
-// A version is prepared, and placed so.
-fn prepares(shelf: &mut Shelf, alloc: Global, version: u64, placed: Placement) -> Result<(), Fail> {
-    let told = shelf.prepare(alloc, version)?;
-    holds(told == placed, "prepare")
-}
-
-// A version is installed, and this is told.
-fn installs(shelf: &mut Shelf, alloc: Global, version: u64, wanted: Installed) -> Result<(), Fail> {
-    let told = shelf.install(alloc, version)?;
-    holds(told == wanted, "install")
 }
 
 // A fetch of these layers gives these bytes.
@@ -83,18 +71,6 @@ fn version_at(server: &Server, place: usize) -> Option<Version> {
     server.stamp_at(place).map(|stamp| stamp.version())
 }
 
-// What a step without memory does to the server.
-fn change(shelf: &mut Shelf, step: Step<'_>) {
-    match step {
-        Step::Settle(version) => shelf.settle(version),
-        Step::Discard(version) => shelf.discard(version),
-        Step::Wipe => shelf.wipe(),
-        Step::Down => shelf.down(),
-        Step::Up => shelf.up(),
-        _ => {}
-    }
-}
-
 // Whether the server is as the step says.
 fn is_so(server: &Server, step: Step<'_>) -> bool {
     match step {
@@ -111,12 +87,16 @@ fn is_so(server: &Server, step: Step<'_>) -> bool {
 
 fn make(shelf: &mut Shelf, alloc: Global, step: Step<'_>) -> Result<(), Fail> {
     match step {
-        Step::Prepare(version, placed) => prepares(shelf, alloc, version, placed),
-        Step::Install(version, wanted) => installs(shelf, alloc, version, wanted),
+        Step::Prepare(version, placed) => {
+            holds(shelf.prepare(alloc, version)? == placed, "prepare")
+        }
+        Step::Install(version, wanted) => {
+            holds(shelf.install(alloc, version)? == wanted, "install")
+        }
         Step::Fetch(version, layers, bytes) => gives(shelf, version, layers, bytes),
         Step::Lack(version, why) => lacks(shelf, version, why),
         other => {
-            change(shelf, other);
+            shelf.change(other);
             holds(is_so(shelf.server(), other), "as it is to be")
         }
     }
@@ -129,10 +109,17 @@ fn make_all(shelf: &mut Shelf, alloc: Global, steps: &[Step<'_>]) -> Result<(), 
     Ok(())
 }
 
-// Makes the steps at a new server.
+// A new server tells its number and its code, and makes the steps.
 fn walk(alloc: Global, steps: &[Step<'_>]) -> Result<(), Fail> {
-    let (book, sealer) = Book::free(alloc, small_geometry()?)?;
-    make_all(&mut Shelf::new(alloc, &book, sealer)?, alloc, steps)
+    let geometry = small_geometry()?;
+    let (book, sealer) = Book::free(alloc, geometry)?;
+    let mut shelf = Shelf::new(alloc, &book, sealer)?;
+    let server = shelf.server();
+    holds(
+        server.number() == 1 && server.geometry() == geometry,
+        "number and code",
+    )?;
+    make_all(&mut shelf, alloc, steps)
 }
 
 #[test]
@@ -212,12 +199,4 @@ fn an_away_server_gives_and_takes_nothing(rt: HostRuntime) -> Result<(), Fail> {
         Step::Fetch(0, &[1, 0], &[6, 5]),
     ];
     walk(rt.alloc(), &steps)
-}
-
-#[test]
-fn a_server_tells_its_number_and_its_code(rt: HostRuntime) -> Result<(), Fail> {
-    let (book, sealer) = Book::free(rt.alloc(), small_geometry()?)?;
-    let shelf = Shelf::new(rt.alloc(), &book, sealer)?;
-    holds(shelf.server().number() == 1, "number")?;
-    holds(shelf.server().geometry() == small_geometry()?, "geometry")
 }

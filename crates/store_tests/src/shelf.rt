@@ -4,6 +4,7 @@ ghost use Rattle.std.specs.Prelude.{◌≡◌, ◌<◌, ◌∷◌, [], All, IfOk
 ghost use Rattle.store_tests.specs.Small.{IsSmall};
 
 use crate::sealing::{chunk, stamps};
+use crate::servers::Step;
 use chunk_server::{Fetched, Installed, Server};
 use std::alloc::{AllocError, Global};
 use std::marker::Model;
@@ -29,6 +30,21 @@ impl<'a> Model for Shelf<'a> {
     ghost view = { λ a. record { book = a.book.now; stamps = a.stamps.items; server = a.server } };
 
     ghost invariant = { λ a. IsShelf (record { book = a.book.now; stamps = a.stamps.items; server = a.server }) };
+}
+
+// A step that takes no memory.
+fn change(server: &mut Server, step: Step<'_>)
+    ensures number { server.new.number ≡ server.old.number }
+    ensures book { server.new.book ≡ server.old.book }
+{
+    match step {
+        Step::Settle(version) => server.settle(Version(version)),
+        Step::Discard(version) => server.discard(Version(version)),
+        Step::Wipe => server.wipe(),
+        Step::Down => server.down(),
+        Step::Up => server.up(),
+        _ => {}
+    }
 }
 
 impl<'a> Shelf<'a> {
@@ -85,24 +101,9 @@ impl<'a> Shelf<'a> {
         self.add(chunk)
     }
 
-    pub fn settle(&mut self, version: u64) {
-        self.server.settle(Version(version));
-    }
-
-    pub fn discard(&mut self, version: u64) {
-        self.server.discard(Version(version));
-    }
-
-    pub fn wipe(&mut self) {
-        self.server.wipe();
-    }
-
-    pub fn down(&mut self) {
-        self.server.down();
-    }
-
-    pub fn up(&mut self) {
-        self.server.up();
+    /// Makes a step that takes no memory.
+    pub fn change(&mut self, step: Step<'_>) {
+        change(&mut self.server, step);
     }
 
     /// Fetches the layers that there are.

@@ -16,14 +16,19 @@ use std::thread::Threads;
 use store_map::{Actor, Call, ClientPart, Content, ListOf, Name, Script, Version};
 use version_seal::{Book, ReserveError, SealedPart, Sealer, Stamp};
 
-// What a thread reads of a version: its call's number, and its stripe.
-type Seen = (u32, u32);
+// What a thread reads of a version: its call by actor and number, its stripe, and the version under it.
+type Seen = (Actor, u32, u32, Option<u64>);
 
 fn read(book: &Book, stamp: &Stamp) -> Seen
     requires { stamp.now.home ≡ book.now.home }
 {
     let note = book.note(stamp);
-    (note.number, note.stripe)
+    (note.actor, note.number, note.stripe, note.base)
+}
+
+// Whether it is the first stripe, of the client's call of this number, over that version.
+fn is_seen(seen: Seen, number: u32, base: Option<u64>) -> bool {
+    seen.0 == Actor::Client(0) && seen.1 == number && seen.2 == 0 && seen.3 == base
 }
 
 // Seals a write over a version, and reads it.
@@ -72,43 +77,8 @@ fn both_see<R: Threads + Sync>(
     requires first { IsStampOf book.now 0 first.now }
 {
     let (read, sealed) = both(rt, alloc, book, sealer, first);
-    holds(sealed? == (1, 0), "seal")?;
-    holds(read == (0, 0), "read")
-}
-
-#[test]
-fn threads_share_a_book(rt: HostRuntime) -> Result<(), Fail> {
-    let (book, mut sealer) = Book::free(rt.alloc(), small_geometry()?)?;
-    let first = stamp(rt.alloc(), &book, &mut sealer)?;
-    both_see(&rt, rt.alloc(), &book, &mut sealer, &first)
-}
-
-/// What a test does with a book of which nothing is sealed.
-#[derive(Clone, Copy)]
-enum Course {
-    Decodes,
-    TellsItsVersion,
-    LaysOver,
-    Ends,
-    Parts,
-}
-
-fn take(course: Course, alloc: Global, book: &Book, sealer: &mut Sealer) -> Result<(), Fail>
-    requires book { IsSmall book.now }
-    requires sealer { sealer.old ≡ sealer_at book.now 0 }
-{
-    match course {
-        Course::Decodes => decodes(alloc, book, sealer),
-        Course::TellsItsVersion => tells_its_version(alloc, book, sealer),
-        Course::LaysOver => lays_over(alloc, book, sealer),
-        Course::Ends => ends(book),
-        Course::Parts => parts(alloc, book, sealer),
-    }
-}
-
-fn with_a_book(alloc: Global, course: Course) -> Result<(), Fail> {
-    let (book, mut sealer) = Book::free(alloc, small_geometry()?)?;
-    take(course, alloc, &book, &mut sealer)
+    holds(is_seen(sealed?, 1, Some(0)), "seal")?;
+    holds(is_seen(read, 0, None), "read")
 }
 
 // Whether the part is server 1's, of version 0.
@@ -123,37 +93,20 @@ fn has_stripe(chunks: &[Vec<u8>], bytes: &[u8]) -> bool {
     chunks.iter().take(2).flatten().eq(bytes.iter())
 }
 
-fn decodes(alloc: Global, book: &Book, sealer: &mut Sealer) -> Result<(), Fail>
+fn decodes(alloc: Global, book: &Book, first: &Stamp) -> Result<(), Fail>
     requires book { IsSmall book.now }
-    requires sealer { sealer.old ≡ sealer_at book.now 0 }
+    requires first { IsStampOf book.now 0 first.now }
 {
-    let first = stamp(alloc, book, sealer)?;
-    let second = fetched(alloc, book, &first, 1)?;
-    let last = fetched(alloc, book, &first, 3)?;
+    let second = fetched(alloc, book, first, 1)?;
+    let last = fetched(alloc, book, first, 3)?;
     holds(is_second(&second), "fetch")?;
     let chunks = decode(alloc, small_geometry()?, &gathered(alloc, &second, &last)?)?;
     holds(has_stripe(&chunks, &stripe(alloc)?), "decode")
 }
 
-fn tells_its_version(alloc: Global, book: &Book, sealer: &mut Sealer) -> Result<(), Fail>
-    requires book { IsSmall book.now }
-    requires sealer { sealer.old ≡ sealer_at book.now 0 }
-{
-    let first = stamp(alloc, book, sealer)?;
+fn tells_its_version(alloc: Global, first: &Stamp) -> Result<(), Fail> {
     let shown = format!(in alloc; "{first:?}")?;
-    holds(shown.as_str() == "Stamp(0)", "stamp")?;
-    holds(sealer.next() == Version(1), "next")
-}
-
-fn lays_over(alloc: Global, book: &Book, sealer: &mut Sealer) -> Result<(), Fail>
-    requires book { IsSmall book.now }
-    requires sealer { sealer.old ≡ sealer_at book.now 0 }
-{
-    let first = stamp(alloc, book, sealer)?;
-    let next = stamp_over(alloc, book, sealer, &first)?;
-    let note = book.note(&next);
-    holds((note.actor, note.number) == (Actor::Client(0), 1), "call")?;
-    holds((note.stripe, note.base) == (0, Some(0)), "base")
+    holds(shown.as_str() == "Stamp(0)", "stamp")
 }
 
 // Whether there is room for so many versions from this one on.
@@ -176,27 +129,39 @@ fn ends(book: &Book) -> Result<(), Fail> {
     Ok(())
 }
 
-fn parts(alloc: Global, book: &Book, sealer: &mut Sealer) -> Result<(), Fail>
+fn parts(alloc: Global, book: &Book, first: &Stamp) -> Result<(), Fail>
     requires book { IsSmall book.now }
-    requires sealer { sealer.old ≡ sealer_at book.now 0 }
+    requires first { IsStampOf book.now 0 first.now }
 {
-    let first = stamp(alloc, book, sealer)?;
-    let two = part(alloc, book, &first, 1, &[3, 0])?;
+    let two = part(alloc, book, first, 1, &[3, 0])?;
     holds(two.bytes() == [8, 5].as_slice(), "bytes")
+}
+
+// The first version is read by its chunks, and by one thread while another one seals the next over it.
+fn is_read<R: Threads + Sync>(
+    rt: &R,
+    alloc: Global,
+    book: &Book,
+    sealer: &mut Sealer,
+    first: &Stamp,
+) -> Result<(), Fail>
+    requires book { IsSmall book.now }
+    requires sealer { sealer.old ≡ sealer_at book.now 1 }
+    requires first { IsStampOf book.now 0 first.now }
+{
+    holds(sealer.next() == Version(1), "next")?;
+    tells_its_version(alloc, first)?;
+    decodes(alloc, book, first)?;
+    parts(alloc, book, first)?;
+    both_see(rt, alloc, book, sealer, first)
 }
 
 #[test]
 fn versions_are_sealed_and_read(rt: HostRuntime) -> Result<(), Fail> {
-    for course in [
-        Course::Decodes,
-        Course::TellsItsVersion,
-        Course::LaysOver,
-        Course::Ends,
-        Course::Parts,
-    ] {
-        with_a_book(rt.alloc(), course)?;
-    }
-    Ok(())
+    let (book, mut sealer) = Book::free(rt.alloc(), small_geometry()?)?;
+    ends(&book)?;
+    let first = stamp(rt.alloc(), &book, &mut sealer)?;
+    is_read(&rt, rt.alloc(), &book, &mut sealer, &first)
 }
 
 // A script of one put.

@@ -1,7 +1,7 @@
 use Rattle.std.proofs.Common.{map, sym, subst}
 use Rattle.store_core.specs.Act.{DirectoryStep}
 use Rattle.dir_walks.specs.Callers.{CallerOf, IsRight, Steps}
-use Rattle.dir_walks.specs.declared.stage.Stage.TheVariants as stage
+use Rattle.dir_walks.specs.declared.stage.WalkStage.TheVariants as stage
 use Rattle.dir_walks.specs.Inside.{caller_in}
 use Rattle.dir_walks.proofs.Made.{commit_steps}
 use Rattle.dir_walks.proofs.caller.Caller.commit.Goals as goal
