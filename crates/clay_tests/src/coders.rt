@@ -1,8 +1,8 @@
 //! What the program and a world ask of their coder.
 use crate::drips::{NONE, run_in_drips};
+use crate::scripts::PUT_THEN_GET;
+use clay_cli::Status;
 use clay_par::ParCoder;
-use command_runs::Status;
-use command_runs::scripts::PUT_THEN_GET;
 use script_text::read_script;
 use std::sync::Wait;
 use std::test::Fail;
@@ -39,30 +39,35 @@ fn asked_by_the_program<R: Threads + Wait + Sync + AllocGlobal>(
     Ok(())
 }
 
-fn encodes_of_the_program<R: Threads + Wait + Sync + AllocGlobal>(
+fn program_encodes<R: Threads + Wait + Sync + AllocGlobal>(
     rt: &R,
     words: &[&str],
-) -> Result<u64, Fail> {
+) -> Result<(), Fail> {
     let coder = Counting::new(ParCoder);
     asked_by_the_program(rt, words, PUT_THEN_GET, &coder)?;
-    Ok(coder.encodes())
+    if coder.encodes() == 0 {
+        return Err(Fail::new(format_args!("{words:?}: no stripe was encoded")));
+    }
+    Ok(())
+}
+
+// Holds a coder of one loss against one rebuild and no decoding.
+fn has_rebuilt(coder: &Counting<ParCoder>) -> Result<(), Fail> {
+    let (rebuilds, recovers) = (coder.rebuilds(), coder.recovers());
+    if rebuilds == 1 && recovers == 0 {
+        return Ok(());
+    }
+    Err(Fail::new(format_args!("{rebuilds} rebuilds, {recovers} recovers")))
 }
 
 #[test]
 fn the_program_asks_its_coder(rt: HostRuntime) -> Result<(), Fail> {
-    assert!(rt; encodes_of_the_program(&rt, &[])? >= 1);
-    assert!(rt; encodes_of_the_program(&rt, &["play"])? >= 1);
-    assert!(rt; encodes_of_the_program(&rt, &["run", "4"])? >= 1);
-    Ok(())
-}
-
-#[test]
-fn the_program_asks_for_a_rebuild(rt: HostRuntime) -> Result<(), Fail> {
+    program_encodes(&rt, &[])?;
+    program_encodes(&rt, &["play"])?;
+    program_encodes(&rt, &["run", "4"])?;
     let coder = Counting::new(ParCoder);
     asked_by_the_program(&rt, &[], ONE_LOSS, &coder)?;
-    assert!(rt; coder.rebuilds() == 1);
-    assert!(rt; coder.recovers() == 0);
-    Ok(())
+    has_rebuilt(&coder)
 }
 
 // What a world asks of its coder.
@@ -84,14 +89,7 @@ fn a_world_asks_its_coder(rt: HostRuntime) -> Result<(), Fail> {
     let coder = Counting::new(ParCoder);
     asked_by_a_world(&rt, PUT_THEN_GET, &coder)?;
     assert!(rt; coder.encodes() >= 1);
-    Ok(())
-}
-
-#[test]
-fn a_world_asks_for_a_rebuild(rt: HostRuntime) -> Result<(), Fail> {
     let coder = Counting::new(ParCoder);
     asked_by_a_world(&rt, ONE_LOSS, &coder)?;
-    assert!(rt; coder.rebuilds() == 1);
-    assert!(rt; coder.recovers() == 0);
-    Ok(())
+    has_rebuilt(&coder)
 }

@@ -1,8 +1,8 @@
 //! Calls of the program over a source that gives a byte a call and a sink that takes one, by a coder that counts.
+use crate::meeting::MeetingGate;
+use crate::runs::{Ran, run_with};
 use clay_bytes::{DripSink, DripSource};
 use clay_par::ParCoder;
-use command_runs::meeting::MeetingGate;
-use command_runs::runs::{Ran, run_with};
 use std::alloc::Global;
 use std::sync::Wait;
 use std::test::Fail;

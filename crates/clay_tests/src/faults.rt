@@ -1,31 +1,13 @@
 //! Reads and writes that fail, each in turn.
 use crate::drips::{Failing, NONE, run_in_drips};
+use crate::runs::fails;
+use crate::scripts::{PUT_THEN_GET, TRANSCRIPT};
+use clay_cli::Status;
 use clay_par::ParCoder;
-use command_runs::Status;
-use command_runs::runs::fails;
-use command_runs::scripts::{PUT_THEN_GET, TRANSCRIPT};
 use std::sync::Wait;
 use std::test::Fail;
 use std::thread::Threads;
 use text_tables::counting::Counting;
-use text_tables::faults::same;
-
-#[test]
-fn first_call_fails(rt: HostRuntime) -> Result<(), Fail> {
-    assert!(rt; fails(&rt, &[], PUT_THEN_GET, &[0], &[], Status::ReadFault)?);
-    assert!(rt; fails(&rt, &[], PUT_THEN_GET, &[], &[0], Status::WriteFault)?);
-    assert!(rt;
-        fails(
-            &rt,
-            &["playy"],
-            PUT_THEN_GET,
-            &[0],
-            &[0],
-            Status::WriteFault
-        )?
-    );
-    Ok(())
-}
 
 // Plays the script a byte a call, and holds how that ends and what is written against what is wanted.
 fn play<R: Threads + Wait + Sync + AllocGlobal>(
@@ -35,10 +17,7 @@ fn play<R: Threads + Wait + Sync + AllocGlobal>(
     written: &[u8],
 ) -> Result<(), Fail> {
     let ran = run_in_drips(rt, &[], PUT_THEN_GET, failing, &Counting::new(ParCoder))?;
-    if ran.status != status {
-        return Err(Fail::from("another status"));
-    }
-    same(&ran.written, written)
+    ran.expect(status, written)
 }
 
 // The read of this number fails.
@@ -69,14 +48,11 @@ fn play_to_write<R: Threads + Wait + Sync + AllocGlobal>(
     play(rt, failing, status, written)
 }
 
-#[test]
-fn a_byte_a_call(rt: HostRuntime) -> Result<(), Fail> {
-    play(&rt, NONE, Status::Done, TRANSCRIPT)
-}
-
 // The last read finds the end of the input.
 #[test]
 fn each_read_fails_in_turn(rt: HostRuntime) -> Result<(), Fail> {
+    fails(&rt, &[], PUT_THEN_GET, &[0], &[], Status::ReadFault)?;
+    play(&rt, NONE, Status::Done, TRANSCRIPT)?;
     for call in 0..78 {
         play_to_read(&rt, call, Status::ReadFault, b"")?;
     }
@@ -85,6 +61,15 @@ fn each_read_fails_in_turn(rt: HostRuntime) -> Result<(), Fail> {
 
 #[test]
 fn each_write_fails_in_turn(rt: HostRuntime) -> Result<(), Fail> {
+    fails(&rt, &[], PUT_THEN_GET, &[], &[0], Status::WriteFault)?;
+    fails(
+        &rt,
+        &["playy"],
+        PUT_THEN_GET,
+        &[0],
+        &[0],
+        Status::WriteFault,
+    )?;
     for call in 0..TRANSCRIPT.len() {
         play_to_write(&rt, call as u64, Status::WriteFault, &TRANSCRIPT[..call])?;
     }

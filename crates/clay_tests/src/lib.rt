@@ -5,11 +5,9 @@
 #[cfg(test)]
 mod by_threads;
 #[cfg(test)]
-mod chunks;
-#[cfg(test)]
-mod chunksd;
-#[cfg(test)]
 mod coders;
+#[cfg(test)]
+mod coding;
 #[cfg(test)]
 mod drips;
 #[cfg(test)]
@@ -17,14 +15,18 @@ mod faults;
 #[cfg(test)]
 mod generate;
 #[cfg(test)]
+mod meeting;
+#[cfg(test)]
 mod meetings;
 #[cfg(test)]
 mod piped;
 #[cfg(test)]
 mod play;
 #[cfg(test)]
-mod recover;
+mod runs;
 #[cfg(test)]
-mod repaird;
+mod scripts;
+#[cfg(test)]
+mod tables;
 #[cfg(test)]
 mod verify;

@@ -1,7 +1,7 @@
 //! The command `run` with its threads at two servers at once.
-use command_runs::Status;
-use command_runs::meeting::MeetingGate;
-use command_runs::runs::run_by;
+use crate::meeting::MeetingGate;
+use crate::runs::run_by;
+use clay_cli::Status;
 use std::sync::Wait;
 use std::test::Fail;
 use std::thread::Threads;

@@ -1,7 +1,6 @@
 //! What `play` and `run` print for the scripts of the examples, put behind its script, is legal to `verify`.
-use command_runs::Status;
-use command_runs::runs::run;
-use command_runs::tables::answers;
+use crate::runs::{Ran, run};
+use clay_cli::Status;
 use std::sync::Wait;
 use std::test::Fail;
 use std::thread::Threads;
@@ -147,6 +146,8 @@ drain
 end
 ";
 
+const LEGAL: &[u8] = b"legal\n";
+
 // Whether the command of the words ends with Done on the script, and `verify` finds the script with what it printed legal.
 fn is_found_legal<R: Threads + Wait + Sync + AllocGlobal>(
     rt: &R,
@@ -154,10 +155,11 @@ fn is_found_legal<R: Threads + Wait + Sync + AllocGlobal>(
     script: &[u8],
 ) -> Result<bool, Fail> {
     let mut piped = unfolded(rt.alloc(), script)?;
-    let ran = run(rt, words, &piped)?;
-    piped.extend_from_slice(&ran.written)?;
-    let legal = answers(rt, &["verify"], &piped, Status::Done, b"legal\n")?;
-    Ok(legal && ran.status == Status::Done)
+    let Ran { status, written } = run(rt, words, &piped)?;
+    piped.extend_from_slice(&written)?;
+    let verdict = run(rt, &["verify"], &piped)?;
+    let is_legal = verdict.status == Status::Done && verdict.written.as_slice() == LEGAL;
+    Ok(is_legal && status == Status::Done)
 }
 
 // Holds so of each of the examples' scripts.

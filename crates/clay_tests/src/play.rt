@@ -1,7 +1,8 @@
 //! The command `play`, and words that are no command.
-use command_runs::Status;
-use command_runs::scripts::{PUT_THEN_GET, TRANSCRIPT};
-use command_runs::tables::{all_answer, answers};
+use crate::runs::answers;
+use crate::scripts::{PUT_THEN_GET, TRANSCRIPT};
+use crate::tables::{ALONE, all_answer};
+use clay_cli::Status;
 use std::alloc::Global;
 use std::sync::Wait;
 use std::test::Fail;
@@ -13,13 +14,6 @@ const USAGE: &[u8] = b"\
 usage: clay play | run WORKERS | verify | chunks K M W | recover K M W | gen START SIZE | trial START SIZE WORKERS \
 | chunksd K M D W | repaird K M D W LOST\n";
 
-#[test]
-fn put_then_get(rt: HostRuntime) -> Result<(), Fail> {
-    assert!(rt; answers(&rt, &[], PUT_THEN_GET, Status::Done, TRANSCRIPT)?);
-    assert!(rt; answers(&rt, &["play"], PUT_THEN_GET, Status::Done, TRANSCRIPT)?);
-    Ok(())
-}
-
 /// Words of no command, parted by spaces.
 const NO_COMMANDS: &str = "\
 playy|play play|Play||\
@@ -28,24 +22,34 @@ recover 2 9 1|recover 2 2 1 1|\
 chunksd 2 3 1|chunksd 2 3 2 1|repaird 2 3 5 1 0|repaird 2 3 3 1 5|\
 gen 0|gen 0 1 1|run|run 0|run 17|verify verify|trial 0 1|trial 0 1 17";
 
-fn is_no_command<R: Threads + Wait + Sync + AllocGlobal>(rt: &R, words: &str) -> Result<(), Fail> {
+// Of the command `gen`, whose numbers are past their ends.
+const NO_NUMBERS: &str = "\
+gen 18446744073709551616 1|gen 99999999999999999999999 1|gen 0 0|gen 0 4097|gen 0 4294967297|\
+gen 01 1|gen 0 01|gen -1 1|gen +1 1|generate 0 1";
+
+fn is_no_command<R: Threads + Wait + Sync + AllocGlobal>(
+    rt: &R,
+    words: &str,
+    input: &[u8],
+) -> Result<(), Fail> {
     let words: Vec<&str> = words.split(' ').collect(rt.alloc())?;
-    if answers(rt, &words, PUT_THEN_GET, Status::Usage, USAGE)? {
-        return Ok(());
-    }
-    Err(Fail::from("taken for a command"))
+    answers(rt, &words, input, Status::Usage, USAGE)
 }
 
 #[test]
 fn words_of_no_command(rt: HostRuntime) -> Result<(), Fail> {
     for words in NO_COMMANDS.split('|') {
-        is_no_command(&rt, words)?;
+        is_no_command(&rt, words, PUT_THEN_GET)?;
+    }
+    for words in NO_NUMBERS.split('|') {
+        is_no_command(&rt, words, b"")?;
     }
     Ok(())
 }
 
 /// Scripts with a fault, with what is said of them.
 const REFUSED: &[u8] = b"\
+play>2>28>\
 >refused line 1 missing end\n\
 |clay 1>refused line 1 missing end\n\
 |\n>refused line 1 syntax\n\
@@ -75,17 +79,12 @@ const REFUSED: &[u8] = b"\
 |clay 1\ncode 2 2 1\nschedule\nend\nend\n>refused line 5 syntax\n\
 |clay 1\ncode 2 2 1\nschedule\nend>refused line 4 missing end\n";
 
-#[test]
-fn scripts_with_a_fault(rt: HostRuntime) -> Result<(), Fail> {
-    all_answer(&rt, &["play"], Status::ScriptRefused, 28, REFUSED)
-}
-
-// Whether a script that is cut off is refused at this line, the one that isn't whole.
+// A script that is cut off is refused at this line, the one that isn't whole.
 fn is_cut_at<R: Threads + Wait + Sync + AllocGlobal>(
     rt: &R,
     cut: &[u8],
     line: u32,
-) -> Result<bool, Fail> {
+) -> Result<(), Fail> {
     let named = format!(in rt.alloc(); "refused line {line} missing end\n")?;
     answers(rt, &["play"], cut, Status::ScriptRefused, named.as_bytes())
 }
@@ -94,23 +93,12 @@ fn is_cut_at<R: Threads + Wait + Sync + AllocGlobal>(
 fn every_cut_of_a_script(rt: HostRuntime) -> Result<(), Fail> {
     let mut line: u32 = 1;
     for length in 0..PUT_THEN_GET.len() {
-        assert!(rt; is_cut_at(&rt, &PUT_THEN_GET[..length], line)?);
+        is_cut_at(&rt, &PUT_THEN_GET[..length], line)?;
         if PUT_THEN_GET[length] == b'\n' {
             line = line.saturating_add(1);
         }
     }
     Ok(())
-}
-
-// A script whose only call puts so many bytes.
-fn put_of(rt: &HostRuntime, length: usize) -> Result<Vec<u8>, Fail> {
-    let alloc = rt.alloc();
-    let mut script = Vec::from_slice(alloc, b"clay 1\ncode 2 2 16\nclient\nput a hex:")?;
-    for _ in 0..length {
-        script.extend_from_slice(b"5a")?;
-    }
-    script.extend_from_slice(b"\nschedule\ndrain\nend\n")?;
-    Ok(script)
 }
 
 const LONGEST: &[u8] = b"\
@@ -119,11 +107,16 @@ H 0 c0.0 ok\nL a 65536\nT 0 0 512 0\nT 1 0 512 0\nT 2 0 512 0\nT 3 0 512 0\nend\
 const LONGER: &[u8] = b"\
 H 0 c0.0 toolarge\nT 0 0 0 0\nT 1 0 0 0\nT 2 0 0 0\nT 3 0 0 0\nend\n";
 
-#[test]
-fn longest_objects(rt: HostRuntime) -> Result<(), Fail> {
-    assert!(rt; answers(&rt, &[], &put_of(&rt, 65536)?, Status::Done, LONGEST)?);
-    assert!(rt; answers(&rt, &[], &put_of(&rt, 65537)?, Status::Done, LONGER)?);
-    Ok(())
+// Of a script whose only call puts so many bytes.
+fn put_answers<R: Threads + Wait + Sync + AllocGlobal>(
+    rt: &R,
+    length: usize,
+    transcript: &[u8],
+) -> Result<(), Fail> {
+    let head = b"clay 1\ncode 2 2 16\nclient\nput a hex:";
+    let mut script = repeated(rt.alloc(), head, b"5a", length)?;
+    script.extend_from_slice(b"\nschedule\ndrain\nend\n")?;
+    answers(rt, &[], &script, Status::Done, transcript)
 }
 
 // Three clients and two repairers over two objects of several stripes. Two servers are emptied once the
@@ -208,10 +201,14 @@ fn transcript_of_large(alloc: Global) -> Result<Vec<u8>, Fail> {
 }
 
 #[test]
-fn objects_of_several_stripes(rt: HostRuntime) -> Result<(), Fail> {
+fn play_answers(rt: HostRuntime) -> Result<(), Fail> {
     let alloc = rt.alloc();
+    answers(&rt, &[], PUT_THEN_GET, Status::Done, TRANSCRIPT)?;
+    answers(&rt, &["play"], PUT_THEN_GET, Status::Done, TRANSCRIPT)?;
+    all_answer(&rt, ALONE, 1, REFUSED)?;
+    put_answers(&rt, 65536, LONGEST)?;
+    put_answers(&rt, 65537, LONGER)?;
     let script = unfolded(alloc, LARGE)?;
     let transcript = transcript_of_large(alloc)?;
-    assert!(rt; answers(&rt, &[], &script, Status::Done, &transcript)?);
-    Ok(())
+    answers(&rt, &[], &script, Status::Done, &transcript)
 }

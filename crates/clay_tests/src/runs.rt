@@ -9,6 +9,7 @@ use std::sync::Wait;
 use std::test::Fail;
 use std::thread::Threads;
 use text_tables::counting::Counting;
+use text_tables::faults::same;
 
 // The bytes of an output that are kept, which are all of it in each test.
 const ROOM: usize = 4_194_304;
@@ -21,9 +22,13 @@ pub struct Ran {
 }
 
 impl Ran {
-    /// Whether it ended so and wrote that.
-    pub fn is_so(&self, status: Status, written: &[u8]) -> bool {
-        self.status == status && self.written.as_slice() == written
+    /// Holds how it ended and what it wrote against what is wanted.
+    pub fn expect(&self, status: Status, written: &[u8]) -> Result<(), Fail> {
+        if self.status == status {
+            return same(&self.written, written);
+        }
+        let found = self.status.number();
+        Err(Fail::new(format_args!("ended with status {found}")))
     }
 }
 
@@ -91,18 +96,6 @@ pub fn run_failing<R: Threads + Wait + Sync + AllocGlobal>(
     run_by(rt, words, input, reads, writes, &MeetingGate::counting())
 }
 
-/// Whether the call ends so where the reads and the writes of these numbers fail, with nothing written.
-pub fn fails<R: Threads + Wait + Sync + AllocGlobal>(
-    rt: &R,
-    words: &[&str],
-    input: &[u8],
-    reads: &[u64],
-    writes: &[u64],
-    status: Status,
-) -> Result<bool, Fail> {
-    Ok(run_failing(rt, words, input, reads, writes)?.is_so(status, b""))
-}
-
 /// Calls the program where nothing fails.
 pub fn run<R: Threads + Wait + Sync + AllocGlobal>(
     rt: &R,
@@ -110,4 +103,27 @@ pub fn run<R: Threads + Wait + Sync + AllocGlobal>(
     input: &[u8],
 ) -> Result<Ran, Fail> {
     run_failing(rt, words, input, &[], &[])
+}
+
+/// Holds the call where the reads and the writes of these numbers fail against this status, with nothing written.
+pub fn fails<R: Threads + Wait + Sync + AllocGlobal>(
+    rt: &R,
+    words: &[&str],
+    input: &[u8],
+    reads: &[u64],
+    writes: &[u64],
+    status: Status,
+) -> Result<(), Fail> {
+    run_failing(rt, words, input, reads, writes)?.expect(status, b"")
+}
+
+/// Holds the call where nothing fails against this status and this output.
+pub fn answers<R: Threads + Wait + Sync + AllocGlobal>(
+    rt: &R,
+    words: &[&str],
+    input: &[u8],
+    status: Status,
+    wanted: &[u8],
+) -> Result<(), Fail> {
+    run(rt, words, input)?.expect(status, wanted)
 }
