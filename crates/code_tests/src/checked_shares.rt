@@ -55,21 +55,31 @@ fn check_each_read(
     Ok(())
 }
 
+// A share, which isn't that of another header, and then is longer.
+fn check_whole(
+    rt: &impl Abort,
+    alloc: Global,
+    crc: &Crc64,
+    header: &ShareHeader,
+    other: &ShareHeader,
+) -> Result<(), AllocError> {
+    let mut share = header.bytes(alloc, crc)?;
+    let foreign = fault_of(alloc, crc, other, &share, None)?;
+    expect_same(rt, foreign, Some(ShareFault::Foreign));
+    expect_same(rt, fault_of(alloc, crc, header, &share, None)?, None);
+    check_each_byte(rt, alloc, crc, header, &mut share)?;
+    check_each_read(rt, alloc, crc, header, &share)?;
+    share.push(0)?;
+    let longer = fault_of(alloc, crc, header, &share, None)?;
+    expect_same(rt, longer, Some(ShareFault::Longer));
+    Ok(())
+}
+
 #[test]
 fn a_whole_share_passes_and_no_other(rt: HostRuntime) -> Result<(), Fail> {
-    let alloc = rt.alloc();
     let geometry = AloofGeometry::new(2, 3, 3, 1)?;
     let header = ShareHeader::new(geometry, 3, 0, 0);
     let other = ShareHeader::new(geometry, 4, 0, 0);
-    let crc = Crc64::new(alloc)?;
-    let mut share = header.bytes(alloc, &crc)?;
-    let foreign = fault_of(alloc, &crc, &other, &share, None)?;
-    expect_same(&rt, foreign, Some(ShareFault::Foreign));
-    expect_same(&rt, fault_of(alloc, &crc, &header, &share, None)?, None);
-    check_each_byte(&rt, alloc, &crc, &header, &mut share)?;
-    check_each_read(&rt, alloc, &crc, &header, &share)?;
-    share.push(0)?;
-    let longer = fault_of(alloc, &crc, &header, &share, None)?;
-    expect_same(&rt, longer, Some(ShareFault::Longer));
-    Ok(())
+    let crc = Crc64::new(rt.alloc())?;
+    Ok(check_whole(&rt, rt.alloc(), &crc, &header, &other)?)
 }

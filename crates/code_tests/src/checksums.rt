@@ -1,4 +1,5 @@
 //! Checksums that liblzma writes.
+use crate::decoding::ramp;
 use crate::expect_same;
 use crc64::{Combiner, Crc64};
 use std::alloc::AllocError;
@@ -20,9 +21,9 @@ fn computes_known_checksums(rt: HostRuntime) -> Result<(), AllocError> {
 #[test]
 fn sums_long_slices(rt: HostRuntime) -> Result<(), AllocError> {
     let crc = Crc64::new(rt.alloc())?;
-    let first: Vec<u8> = (0..10_000u32).map(|i| (i % 251) as u8).collect(rt.alloc())?;
+    let first = ramp(rt.alloc(), 10_000, 251)?;
     expect_same(&rt, crc.checksum(&first), 0x3EC3_BC24_B9CA_BEE3);
-    let second: Vec<u8> = (0..10_000u32).map(|i| (i % 241) as u8).collect(rt.alloc())?;
+    let second = ramp(rt.alloc(), 10_000, 241)?;
     expect_same(&rt, crc.checksum(&second), 0x4E33_315E_0F9A_FA1B);
     Ok(())
 }

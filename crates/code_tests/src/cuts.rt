@@ -1,9 +1,11 @@
 //! A file cut into its shares, with each call failing in turn.
+use crate::expect_same;
 use crate::shares::{FILE, new_shares, new_source};
 use clay_aloof::AloofGeometry;
 use crc64::Crc64;
 use share_files::{CutFault, cut};
 use std::alloc::{AllocError, Global};
+use std::test::Fail;
 
 // What cutting the file answers, where the read, or the last share's write, of this number fails.
 fn cut_fault(
@@ -19,21 +21,16 @@ fn cut_fault(
 }
 
 #[test]
-fn each_read_and_each_write_fails_in_turn(rt: HostRuntime) -> Result<(), AllocError> {
-    let crc = Crc64::new(rt.alloc())?;
-    let Ok(geometry) = AloofGeometry::new(2, 3, 3, 1) else {
-        return Ok(());
-    };
-    assert_eq!(rt; cut_fault(rt.alloc(), &crc, geometry, None, None)?, None);
+fn each_read_and_each_write_fails_in_turn(rt: HostRuntime) -> Result<(), Fail> {
+    let alloc = rt.alloc();
+    let geometry = AloofGeometry::new(2, 3, 3, 1)?;
+    let crc = Crc64::new(alloc)?;
+    expect_same(&rt, cut_fault(alloc, &crc, geometry, None, None)?, None);
     for call in 0..3u64 {
-        assert_eq!(rt;
-            cut_fault(rt.alloc(), &crc, geometry, Some(call), None)?,
-            Some(CutFault::ReadFault)
-        );
-        assert_eq!(rt;
-            cut_fault(rt.alloc(), &crc, geometry, None, Some(call))?,
-            Some(CutFault::WriteFault)
-        );
+        let unread = cut_fault(alloc, &crc, geometry, Some(call), None)?;
+        expect_same(&rt, unread, Some(CutFault::ReadFault));
+        let unwritten = cut_fault(alloc, &crc, geometry, None, Some(call))?;
+        expect_same(&rt, unwritten, Some(CutFault::WriteFault));
     }
     Ok(())
 }

@@ -1,9 +1,9 @@
 //! Codewords that are given back from what is left of them.
-ghost use Rattle.std.specs.Prelude.{◌≡◌, length, IfOk, IfSome};
+ghost use Rattle.std.specs.Prelude.{◌≡◌, ◌<◌, length, IfOk, IfSome};
 ghost use Rattle.clay_grid.specs.Shape.{chunk_count, chunk_length};
 ghost use Rattle.clay_model.specs.Left.{AreLong};
 
-use crate::expect_bytes;
+use crate::{expect_bytes, expect_same};
 use clay_decode::{decode, decode_checked};
 use clay_encode::encode;
 use clay_grid::Geometry;
@@ -87,8 +87,10 @@ fn check_refused(rt: &impl Abort, alloc: Global, g: Geometry, have: &[Option<Vec
     requires count { length have.now ≡ chunk_count g }
     requires lengths { AreLong (chunk_length g) have.now }
 {
-    assert!(rt; decode(alloc, g, have).err() == Some(DecodeFault::TooFew));
-    assert!(rt; decode_checked(alloc, g, have).err() == Some(CheckedFault::TooFew));
+    let refused = decode(alloc, g, have).err();
+    expect_same(rt, refused, Some(DecodeFault::TooFew));
+    let refused = decode_checked(alloc, g, have).err();
+    expect_same(rt, refused, Some(CheckedFault::TooFew));
 }
 
 // The chunks of the codeword come back.
@@ -143,13 +145,20 @@ fn codewords_are_decoded(rt: HostRuntime) -> Result<(), Fail> {
     check_word(&rt, rt.alloc(), &PAIRED)
 }
 
-fn ramp(alloc: Global, len: u32) -> Result<Vec<u8>, AllocError> {
-    (0..len).map(|i| (i % 251) as u8).collect(alloc)
+/// Bytes that count up to a number, over and over.
+pub(crate) fn ramp(alloc: Global, len: u32, numbers: u32) -> Result<Vec<u8>, AllocError>
+    requires { 0 < numbers }
+{
+    let mut bytes = Vec::with_capacity(alloc, len as usize)?;
+    for i in 0..len {
+        bytes.push((i % numbers) as u8)?;
+    }
+    Ok(bytes)
 }
 
 // The chunks of a stripe.
 fn encoded(rt: &impl Abort, alloc: Global, g: Geometry) -> Result<Vec<Vec<u8>>, Fail> {
-    let stripe = ramp(alloc, g.stripe_len())?;
+    let stripe = ramp(alloc, g.stripe_len(), 251)?;
     assert!(rt; stripe.len() == g.stripe_len() as usize);
     Ok(encode(alloc, g, &stripe)?)
 }
@@ -180,16 +189,13 @@ fn agrees(
     }
 }
 
-fn check_another(rt: &impl Abort, alloc: Global, chunks: &[Vec<u8>]) -> Result<(), Fail> {
-    let g = Geometry::new(2, 2, 1)?;
-    assert!(rt; !agrees(rt, alloc, g, chunks, 0b0000)?);
-    assert!(rt; !agrees(rt, alloc, g, chunks, 0b0001)?);
-    assert!(rt; agrees(rt, alloc, g, chunks, 0b0011)?);
-    assert!(rt; agrees(rt, alloc, g, chunks, 0b1000)?);
-    Ok(())
-}
-
 #[test]
 fn chunks_of_no_codeword_disagree(rt: HostRuntime) -> Result<(), Fail> {
-    check_another(&rt, rt.alloc(), &chunks_of(rt.alloc(), &ANOTHER)?)
+    let g = Geometry::new(2, 2, 1)?;
+    let chunks = chunks_of(rt.alloc(), &ANOTHER)?;
+    expect_same(&rt, agrees(&rt, rt.alloc(), g, &chunks, 0b0000)?, false);
+    expect_same(&rt, agrees(&rt, rt.alloc(), g, &chunks, 0b0001)?, false);
+    expect_same(&rt, agrees(&rt, rt.alloc(), g, &chunks, 0b0011)?, true);
+    expect_same(&rt, agrees(&rt, rt.alloc(), g, &chunks, 0b1000)?, true);
+    Ok(())
 }

@@ -4,30 +4,16 @@ use clay_grid::Geometry;
 use clay_scalar::{Solver, syndromes};
 use std::test::Fail;
 
+// Four values of two bytes, two of one byte, and three that lie far apart.
 #[test]
-fn values_of_two_bytes_have_the_sums(rt: HostRuntime) -> Result<(), Fail> {
-    let mut four = [0; 8];
+fn values_have_the_sums(rt: HostRuntime) -> Result<(), Fail> {
+    let (mut four, mut two, mut three) = ([0; 8], [0xFF; 2], [0xFF; 3]);
     let sums = [0x01, 0x80, 0x02, 0x00, 0x03, 0x00, 0x04, 0x1D];
     Solver::new(rt.alloc(), &[0, 1, 2, 3])?.solve(2, &sums, &mut four);
-    expect_bytes(
-        &rt,
-        &four,
-        &[0x02, 0x0B, 0x79, 0x8B, 0xF5, 0x8B, 0x8F, 0x8B],
-    );
-    Ok(())
-}
-
-#[test]
-fn values_of_one_byte_have_the_sums(rt: HostRuntime) -> Result<(), Fail> {
-    let mut two = [0xFF; 2];
+    let values = [0x02, 0x0B, 0x79, 0x8B, 0xF5, 0x8B, 0x8F, 0x8B];
+    expect_bytes(&rt, &four, &values);
     Solver::new(rt.alloc(), &[4, 5])?.solve(1, &[0x53, 0xA6], &mut two);
     expect_bytes(&rt, &two, &[0xA4, 0xF7]);
-    Ok(())
-}
-
-#[test]
-fn values_far_apart_have_the_sums(rt: HostRuntime) -> Result<(), Fail> {
-    let mut three = [0xFF; 3];
     Solver::new(rt.alloc(), &[17, 23, 250])?.solve(1, &[0x11, 0x22, 0x44], &mut three);
     expect_bytes(&rt, &three, &[0xD9, 0x7F, 0xB7]);
     Ok(())

@@ -1,8 +1,8 @@
 //! A file joined from its shares, of which some are missing, rotten or can't be read, with each call failing in turn.
-ghost use Rattle.std.specs.Prelude.{◌≡◌, ◌≤◌, ◌<◌, length};
-ghost use Rattle.clay_aloof.specs.Shape.{all_chunks};
+ghost use Rattle.std.specs.Prelude.{◌≡◌, ◌≤◌, length};
 
 use crate::shares::{FILE, cut_shares};
+use crate::{expect_bytes, expect_same};
 use clay_aloof::AloofGeometry;
 use clay_bytes::MemSink;
 use crc64::Crc64;
@@ -10,6 +10,8 @@ use file_bytes::{MemFile, SinkAt};
 use share_files::{JoinFault, join};
 use share_format::ShareHeader;
 use std::alloc::{AllocError, Global};
+use std::process::Abort;
+use std::test::Fail;
 
 // What goes wrong with the shares, or with what is joined from them.
 #[derive(Clone, Copy)]
@@ -24,20 +26,20 @@ enum Harm {
     FailedWrite(u64),
 }
 
-// The number of the last share's call that fails: it took three writes before.
-fn failing_call(harm: Harm) -> Option<u64> {
-    match harm {
-        Harm::FailedRead(read) if read < 8 => Some(3 + read),
-        _ => None,
-    }
-}
-
 // Makes the first so many shares empty.
 fn empty(alloc: Global, shares: &mut [MemFile], count: usize)
     requires { count ≤ length shares.old }
 {
     for share in 0..count {
         shares[share] = MemFile::new(Vec::new(alloc), 1, None);
+    }
+}
+
+// The number of the last share's call that fails: it took three writes before.
+fn failing_call(harm: Harm) -> Option<u64> {
+    match harm {
+        Harm::FailedRead(read) => Some(read.saturating_add(3)),
+        _ => None,
     }
 }
 
@@ -64,94 +66,80 @@ fn new_sink(alloc: Global, harm: Harm) -> Result<MemSink, AllocError> {
     Ok(MemSink::new(Vec::with_capacity(alloc, 64)?, failing))
 }
 
-// Joins harmed shares. Says whether the file came back, and in `missed` at which stripe each share's block was missed first.
-fn join_harmed(
+// Joins harmed shares: the file comes back, unless another end is wanted, and each share's block is missed first at the stripe in `missed`.
+fn expect_join(
+    rt: &impl Abort,
     alloc: Global,
     crc: &Crc64,
-    geometry: AloofGeometry,
     harm: Harm,
-    missed: &mut [Option<u64>],
-) -> Result<Result<bool, JoinFault>, AllocError>
-    requires code { all_chunks geometry ≡ 5 }
-    requires missed { length missed.old ≡ 5 }
-{
+    wanted: Result<(), JoinFault>,
+    missed: [Option<u64>; 5],
+) -> Result<(), Fail> {
+    let geometry = AloofGeometry::new(2, 3, 3, 1)?;
+    let header = ShareHeader::new(geometry, 0, FILE.len() as u64, crc.checksum(FILE));
     let mut shares = cut_shares(alloc, crc, geometry, FILE, failing_call(harm))?;
     harm_shares(alloc, &mut shares, harm);
     let mut sink = new_sink(alloc, harm)?;
-    let header = ShareHeader::new(geometry, 0, FILE.len() as u64, crc.checksum(FILE));
-    match join(alloc, crc, &header, &mut shares, &mut sink, missed) {
-        Ok(()) => Ok(Ok(sink.kept() == FILE)),
-        Err(fault) => Ok(Err(fault)),
+    let mut found = [None; 5];
+    let joined = join(alloc, crc, &header, &mut shares, &mut sink, &mut found);
+    expect_same(rt, joined, wanted);
+    expect_same(rt, found, missed);
+    if wanted.is_ok() {
+        expect_bytes(rt, sink.kept(), FILE);
     }
+    Ok(())
 }
 
+/// Where shares miss a block first of which the first so many are missing.
+const FIRST_MISSED: [[Option<u64>; 5]; 5] = [
+    [None; 5],
+    [Some(0), None, None, None, None],
+    [Some(0), Some(0), None, None, None],
+    [Some(0), Some(0), Some(0), None, None],
+    [Some(0), Some(0), Some(0), Some(0), None],
+];
+
 #[test]
-fn any_two_of_five_are_enough(rt: HostRuntime) -> Result<(), AllocError> {
-    let crc = Crc64::new(rt.alloc())?;
-    let Ok(geometry) = AloofGeometry::new(2, 3, 3, 1) else {
-        return Ok(());
-    };
-    let mut missed = [None; 5];
+fn any_two_of_five_are_enough(rt: HostRuntime) -> Result<(), Fail> {
+    let alloc = rt.alloc();
+    let crc = Crc64::new(alloc)?;
     for count in 0..4usize {
-        let joined = join_harmed(
-            rt.alloc(),
-            &crc,
-            geometry,
-            Harm::Missing(count),
-            &mut missed,
-        )?;
-        assert_eq!(rt; joined, Ok(true));
+        let harm = Harm::Missing(count);
+        expect_join(&rt, alloc, &crc, harm, Ok(()), FIRST_MISSED[count])?;
     }
-    assert_eq!(rt; missed, [Some(0), Some(0), Some(0), None, None]);
-    let joined = join_harmed(rt.alloc(), &crc, geometry, Harm::Missing(4), &mut missed)?;
-    assert_eq!(rt; joined, Err(JoinFault::TooFew(0)));
-    Ok(())
+    let too_few = Err(JoinFault::TooFew(0));
+    expect_join(&rt, alloc, &crc, Harm::Missing(4), too_few, FIRST_MISSED[4])
 }
 
 // The second block begins at byte 136. Rot of a parity share isn't read where the data shares are good.
 #[test]
-fn rot_is_noted(rt: HostRuntime) -> Result<(), AllocError> {
-    let crc = Crc64::new(rt.alloc())?;
-    let Ok(geometry) = AloofGeometry::new(2, 3, 3, 1) else {
-        return Ok(());
-    };
-    let mut missed = [None; 5];
+fn rot_is_noted(rt: HostRuntime) -> Result<(), Fail> {
+    let alloc = rt.alloc();
+    let crc = Crc64::new(alloc)?;
     for at in [64, 135, 136, 207u64] {
-        let joined = join_harmed(rt.alloc(), &crc, geometry, Harm::Rot(0, at), &mut missed)?;
-        assert_eq!(rt; joined, Ok(true));
-        assert_eq!(rt; missed, [Some(at / 136), None, None, None, None]);
-        let joined = join_harmed(rt.alloc(), &crc, geometry, Harm::Rot(4, at), &mut missed)?;
-        assert_eq!(rt; joined, Ok(true));
-        assert_eq!(rt; missed, [None; 5]);
+        let missed = [Some(at / 136), None, None, None, None];
+        expect_join(&rt, alloc, &crc, Harm::Rot(0, at), Ok(()), missed)?;
+        expect_join(&rt, alloc, &crc, Harm::Rot(4, at), Ok(()), [None; 5])?;
     }
     Ok(())
 }
 
 #[test]
-fn each_read_and_each_write_fails_in_turn(rt: HostRuntime) -> Result<(), AllocError> {
-    let crc = Crc64::new(rt.alloc())?;
-    let Ok(geometry) = AloofGeometry::new(2, 3, 3, 1) else {
-        return Ok(());
-    };
-    let mut missed = [None; 5];
+fn each_read_and_each_write_fails_in_turn(rt: HostRuntime) -> Result<(), Fail> {
+    let alloc = rt.alloc();
+    let crc = Crc64::new(alloc)?;
     for call in 0..2u64 {
-        let joined = join_harmed(
-            rt.alloc(),
+        let missed = [Some(0), None, None, None, Some(call)];
+        expect_join(&rt, alloc, &crc, Harm::FailedRead(call), Ok(()), missed)?;
+        let unwritten = Err(JoinFault::WriteFault);
+        expect_join(
+            &rt,
+            alloc,
             &crc,
-            geometry,
-            Harm::FailedRead(call),
-            &mut missed,
-        )?;
-        assert_eq!(rt; joined, Ok(true));
-        assert_eq!(rt; missed, [Some(0), None, None, None, Some(call)]);
-        let joined = join_harmed(
-            rt.alloc(),
-            &crc,
-            geometry,
             Harm::FailedWrite(call),
-            &mut missed,
+            unwritten,
+            [None; 5],
         )?;
-        assert_eq!(rt; joined, Err(JoinFault::WriteFault));
     }
     Ok(())
 }

@@ -1,100 +1,126 @@
 //! Each share of a file mended, with rot and failing calls.
-ghost use Rattle.std.specs.Prelude.{◌≡◌, ◌≤◌, ◌^◌, [], length};
+ghost use Rattle.std.specs.Prelude.{◌≡◌, ◌≤◌, ◌<◌, ◌^◌, length};
 ghost use Rattle.clay_aloof.specs.Shape.{all_chunks};
 
 use crate::shares::{cut_shares, new_file, new_share};
+use crate::{expect_bytes, expect_same};
 use clay_aloof::AloofGeometry;
 use crc64::Crc64;
 use file_bytes::{MemFile, SinkAt};
 use share_format::ShareHeader;
-use share_mends::{MendFault, RottenPart, are_helpers, mend};
+use share_mends::{MendFault, RottenPart, mend};
+use share_run::choose_helpers;
 use std::alloc::{AllocError, Global};
+use std::process::Abort;
+use std::test::Fail;
 
-// The shares that help where a share is lost: the first `d` others, but for those of its column first.
-fn marks(alloc: Global, geometry: AloofGeometry, lost: u32) -> Result<Vec<bool>, AllocError> {
-    let q = geometry.grid().q();
-    let mut marks = Vec::new(alloc);
-    if lost >= geometry.n() {
-        return Ok(marks);
-    }
-    let own = geometry.node_of_chunk(lost) / q;
-    let mut left = geometry.n() - 1 - geometry.d();
-    for c in 0..geometry.n() {
-        let column = geometry.node_of_chunk(c) / q;
-        let aloof = c != lost && column != own && left > 0;
-        if aloof {
-            left -= 1;
-        }
-        marks.push(c != lost && !aloof)?;
-    }
-    Ok(marks)
-}
-
-// What a mend into an empty share answers, if the marked shares can help.
+// What a mend of a share answers. The first others help, but for those of its column first.
 fn mend_share(
     alloc: Global,
     crc: &Crc64,
     header: &ShareHeader,
     shares: &mut [MemFile],
-    helpers: &[bool],
     sink: &mut MemFile,
-) -> Option<Result<(), MendFault>>
-    requires shares { length shares.old ≡ all_chunks header.now.shape }
-    requires empty { sink.old.put ≡ [] }
+) -> Result<Result<(), MendFault>, Fail>
+    requires { length shares.old ≡ all_chunks header.now.shape }
 {
     let _stripes = header.stripe_count();
-    if !are_helpers(header.geometry(), header.share(), helpers) {
-        return None;
-    }
-    Some(mend(alloc, crc, header, shares, helpers, sink))
+    let geometry = header.geometry();
+    let good = vec![in alloc; true; geometry.n() as usize]?;
+    let Some(helpers) = choose_helpers(alloc, geometry, header.share(), &good)? else {
+        return Err(Fail::from("no helpers"));
+    };
+    Ok(mend(alloc, crc, header, shares, &helpers, sink))
 }
 
-// Whether the lost share of a file of so many bytes comes back.
-fn comes_back(
+// The lost share comes back.
+fn check_mend(
+    rt: &impl Abort,
+    alloc: Global,
+    crc: &Crc64,
+    header: &ShareHeader,
+    lost: u32,
+    shares: &mut [MemFile],
+) -> Result<(), Fail>
+    requires shares { length shares.old ≡ all_chunks header.now.shape }
+    requires lost { lost < all_chunks header.now.shape }
+{
+    let kept = shares[lost as usize].bytes().to_vec(alloc)?;
+    shares[lost as usize] = MemFile::new(Vec::new(alloc), 1, None);
+    let mut sink = new_share(alloc, None)?;
+    mend_share(alloc, crc, header, shares, &mut sink)??;
+    expect_bytes(rt, sink.bytes(), &kept);
+    shares[lost as usize] = sink;
+    Ok(())
+}
+
+// Each share comes back, of a file of so many bytes that has this checksum.
+fn check_mends(
+    rt: &impl Abort,
     alloc: Global,
     crc: &Crc64,
     geometry: AloofGeometry,
-    lost: u32,
-    size: usize,
-) -> Result<bool, AllocError>
-    requires { size ≤ 2 ^ 56 }
+    size: u64,
+    checksum: u64,
+    shares: &mut [MemFile],
+) -> Result<(), Fail>
+    requires shares { length shares.old ≡ all_chunks geometry }
+    requires size { size ≤ 2 ^ 56 }
 {
-    let file = new_file(alloc, size)?;
-    let mut shares = cut_shares(alloc, crc, geometry, &file, None)?;
-    if lost >= geometry.n() {
-        return Ok(false);
+    for lost in 0..geometry.n() {
+        let header = ShareHeader::new(geometry, lost, size, checksum);
+        check_mend(rt, alloc, crc, &header, lost, shares)?;
     }
-    let header = ShareHeader::new(geometry, lost, size as u64, crc.checksum(&file));
-    let helpers = marks(alloc, geometry, lost)?;
-    let mut sink = new_share(alloc, None)?;
-    let kept = shares[lost as usize].bytes().to_vec(alloc)?;
-    shares[lost as usize] = MemFile::new(Vec::new(alloc), 1, None);
-    let ended = mend_share(alloc, crc, &header, &mut shares, &helpers, &mut sink);
-    Ok(ended == Some(Ok(())) && sink.bytes() == kept.as_slice())
+    Ok(())
 }
 
-// Whether each share of a file of so many bytes comes back.
-fn come_back(alloc: Global, k: u32, m: u32, d: u32, w: u32, size: usize) -> Result<bool, AllocError>
+// Each share of a file of so many bytes comes back.
+fn check_file(
+    rt: &impl Abort,
+    alloc: Global,
+    geometry: AloofGeometry,
+    size: usize,
+) -> Result<(), Fail>
     requires { size ≤ 2 ^ 56 }
 {
     let crc = Crc64::new(alloc)?;
-    let Ok(geometry) = AloofGeometry::new(k, m, d, w) else {
-        return Ok(false);
-    };
-    for lost in 0..geometry.n() {
-        if !comes_back(alloc, &crc, geometry, lost, size)? {
-            return Ok(false);
-        }
-    }
-    Ok(true)
+    let file = new_file(alloc, size)?;
+    let mut shares = cut_shares(alloc, &crc, geometry, &file, None)?;
+    let checksum = crc.checksum(&file);
+    check_mends(
+        rt,
+        alloc,
+        &crc,
+        geometry,
+        size as u64,
+        checksum,
+        &mut shares,
+    )
 }
 
 #[test]
-fn each_share_comes_back(rt: HostRuntime) -> Result<(), AllocError> {
-    assert!(rt; come_back(rt.alloc(), 4, 2, 5, 3, 230)?);
-    assert!(rt; come_back(rt.alloc(), 8, 4, 11, 2, 2500)?);
-    assert!(rt; come_back(rt.alloc(), 8, 4, 10, 1, 1000)?);
-    assert!(rt; come_back(rt.alloc(), 8, 4, 9, 1, 0)?);
+fn each_share_comes_back(rt: HostRuntime) -> Result<(), Fail> {
+    let alloc = rt.alloc();
+    check_file(&rt, alloc, AloofGeometry::new(4, 2, 5, 3)?, 230)?;
+    check_file(&rt, alloc, AloofGeometry::new(8, 4, 11, 2)?, 2500)?;
+    check_file(&rt, alloc, AloofGeometry::new(8, 4, 10, 1)?, 1000)?;
+    check_file(&rt, alloc, AloofGeometry::new(8, 4, 9, 1)?, 0)
+}
+
+// Makes a byte of share 4 another, and a read of share 5 fail.
+fn harm(
+    alloc: Global,
+    shares: &mut [MemFile],
+    rot: Option<u64>,
+    failing_read: Option<u64>,
+) -> Result<(), AllocError>
+    requires { length shares.old ≡ 6 }
+{
+    if let Some(at) = rot {
+        let _written = shares[4].write_at(at, b"?");
+    }
+    let kept = shares[5].bytes().to_vec(alloc)?;
+    shares[5] = MemFile::new(kept, 100, failing_read);
     Ok(())
 }
 
@@ -104,46 +130,39 @@ fn answer(
     rot: Option<u64>,
     failing_read: Option<u64>,
     failing_write: Option<u64>,
-) -> Result<Option<Result<(), MendFault>>, AllocError> {
+) -> Result<Result<(), MendFault>, Fail> {
+    let geometry = AloofGeometry::new(4, 2, 5, 3)?;
     let crc = Crc64::new(alloc)?;
-    let Ok(geometry) = AloofGeometry::new(4, 2, 5, 3) else {
-        return Ok(None);
-    };
     let file = new_file(alloc, 230)?;
     let header = ShareHeader::new(geometry, 2, 230, crc.checksum(&file));
     let mut shares = cut_shares(alloc, &crc, geometry, &file, None)?;
-    if let Some(at) = rot {
-        let _written = shares[4].write_at(at, b"?");
-    }
-    let kept = shares[5].bytes().to_vec(alloc)?;
-    shares[5] = MemFile::new(kept, 100, failing_read);
-    let helpers = marks(alloc, geometry, 2)?;
+    harm(alloc, &mut shares, rot, failing_read)?;
     let mut sink = new_share(alloc, failing_write)?;
-    Ok(mend_share(alloc, &crc, &header, &mut shares, &helpers, &mut sink))
+    mend_share(alloc, &crc, &header, &mut shares, &mut sink)
 }
 
 #[test]
-fn each_call_fails_in_turn(rt: HostRuntime) -> Result<(), AllocError> {
-    assert_eq!(rt; answer(rt.alloc(), None, None, None)?, Some(Ok(())));
-    assert_eq!(rt;
-        answer(rt.alloc(), None, Some(0), None)?,
-        Some(Err(MendFault::ReadFault))
-    );
-    assert_eq!(rt;
-        answer(rt.alloc(), None, None, Some(0))?,
-        Some(Err(MendFault::WriteFault))
-    );
+fn each_call_fails_in_turn(rt: HostRuntime) -> Result<(), Fail> {
+    let alloc = rt.alloc();
+    expect_same(&rt, answer(alloc, None, None, None)?, Ok(()));
+    let unread = answer(alloc, None, Some(0), None)?;
+    expect_same(&rt, unread, Err(MendFault::ReadFault));
+    let unwritten = answer(alloc, None, None, Some(0))?;
+    expect_same(&rt, unwritten, Err(MendFault::WriteFault));
     Ok(())
 }
 
-// A block has 64 bytes of checksums, and 24 of its chunk.
+// A block has a checksum of each of 8 layers, and 24 bytes of its chunk. The first layer is asked for, and the last one isn't.
 #[test]
-fn rot_is_named(rt: HostRuntime) -> Result<(), AllocError> {
+fn rot_is_named(rt: HostRuntime) -> Result<(), Fail> {
+    let alloc = rt.alloc();
     let rotten = RottenPart {
         share: 4,
         stripe: 1,
     };
-    let entry = answer(rt.alloc(), Some(64 + 88 + 63), None, None)?;
-    assert!(rt; entry == Some(Ok(())) || entry == Some(Err(MendFault::Rotten(rotten))));
+    let first = answer(alloc, Some(64 + 88), None, None)?;
+    expect_same(&rt, first, Err(MendFault::Rotten(rotten)));
+    let last = answer(alloc, Some(64 + 88 + 63), None, None)?;
+    expect_same(&rt, last, Ok(()));
     Ok(())
 }

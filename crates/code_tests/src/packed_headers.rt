@@ -1,8 +1,9 @@
 //! A header's bytes, as another program packs them, and what is refused.
+use crate::{expect_bytes, expect_same};
 use clay_aloof::AloofGeometry;
 use crc64::Crc64;
 use share_format::{BadHeader, ShareHeader, read_header};
-use std::alloc::AllocError;
+use std::test::Fail;
 
 /// Share 3 of 8 + 4 with 11 helpers and subchunks of 4,096 bytes, of a file of 10,000,000 bytes whose checksum is 0x0123456789abcdef.
 const PACKED: [u8; 64] = [
@@ -22,24 +23,22 @@ fn refused(crc: &Crc64, place: usize, byte: u8) -> Option<BadHeader> {
 }
 
 #[test]
-fn writes_what_is_packed(rt: HostRuntime) -> Result<(), AllocError> {
-    let crc = Crc64::new(rt.alloc())?;
-    let Ok(geometry) = AloofGeometry::new(8, 4, 11, 4096) else {
-        return Ok(());
-    };
+fn writes_and_reads_what_is_packed(rt: HostRuntime) -> Result<(), Fail> {
+    let geometry = AloofGeometry::new(8, 4, 11, 4096)?;
     let header = ShareHeader::new(geometry, 3, 10_000_000, 0x0123_4567_89ab_cdef);
+    let crc = Crc64::new(rt.alloc())?;
     let bytes = header.bytes(rt.alloc(), &crc)?;
-    assert_eq!(rt; bytes.as_slice(), PACKED.as_slice());
-    assert_eq!(rt; read_header(&crc, &PACKED), Ok(header));
+    expect_bytes(&rt, &bytes, &PACKED);
+    expect_same(&rt, read_header(&crc, &PACKED), Ok(header));
     Ok(())
 }
 
 #[test]
-fn names_the_cause(rt: HostRuntime) -> Result<(), AllocError> {
+fn names_the_cause(rt: HostRuntime) -> Result<(), Fail> {
     let crc = Crc64::new(rt.alloc())?;
-    assert_eq!(rt; refused(&crc, 64, 0), None);
-    assert_eq!(rt; refused(&crc, 0, 0), Some(BadHeader::Magic));
-    assert_eq!(rt; refused(&crc, 8, 2), Some(BadHeader::Version));
-    assert_eq!(rt; refused(&crc, 12, 9), Some(BadHeader::Checksum));
+    expect_same(&rt, refused(&crc, 64, 0), None);
+    expect_same(&rt, refused(&crc, 0, 0), Some(BadHeader::Magic));
+    expect_same(&rt, refused(&crc, 8, 2), Some(BadHeader::Version));
+    expect_same(&rt, refused(&crc, 12, 9), Some(BadHeader::Checksum));
     Ok(())
 }

@@ -2,10 +2,11 @@
 ghost use Rattle.std.specs.Prelude.{◌≡◌};
 ghost use Rattle.clay_aloof.specs.Shape.{aloof_of};
 
+use crate::{expect_bytes, expect_same};
 use clay_aloof::AloofGeometry;
 use crc64::{Combiner, Crc64};
 use share_format::{cut_stripe, extended_by_chunk, is_block};
-use std::alloc::AllocError;
+use std::test::Fail;
 
 const STRIPE: [u8; 16] = [0x01, 0, 0, 0, 0x53, 0, 0, 0, 0xa7, 0, 0, 0, 0, 0, 0, 0];
 
@@ -37,42 +38,28 @@ fn is_still_one(g: AloofGeometry, crc: &Crc64, place: usize) -> bool
 }
 
 #[test]
-fn cuts_a_worked_stripe(rt: HostRuntime) -> Result<(), AllocError> {
+fn cuts_a_worked_stripe(rt: HostRuntime) -> Result<(), Fail> {
+    let g = AloofGeometry::new(2, 3, 3, 1)?;
     let crc = Crc64::new(rt.alloc())?;
-    let Ok(g) = AloofGeometry::new(2, 3, 3, 1) else {
-        return Ok(());
-    };
     let blocks = cut_stripe(rt.alloc(), g, &crc, &STRIPE)?;
-    assert_eq!(rt; blocks.len(), 5);
-    assert_eq!(rt; blocks[3].len(), 72);
-    assert_eq!(rt; &blocks[3][64..], CHUNK.as_slice());
-    assert_eq!(rt; &blocks[3][..8], CHECKSUM.as_slice());
+    assert!(rt; blocks.len() == 5);
+    let block = &blocks[3];
+    assert!(rt; block.len() == 72);
+    expect_bytes(&rt, &block[64..], &CHUNK);
+    expect_bytes(&rt, &block[..8], &CHECKSUM);
     Ok(())
 }
 
 #[test]
-fn compares_a_table(rt: HostRuntime) -> Result<(), AllocError> {
+fn compares_and_sums_by_a_table(rt: HostRuntime) -> Result<(), Fail> {
+    let g = AloofGeometry::new(2, 4, 4, 1)?;
     let crc = Crc64::new(rt.alloc())?;
-    let Ok(g) = AloofGeometry::new(2, 4, 4, 1) else {
-        return Ok(());
-    };
-    assert_eq!(rt; is_still_one(g, &crc, BLOCK.len()), true);
-    assert_eq!(rt; is_still_one(g, &crc, 8), false);
-    assert_eq!(rt; is_still_one(g, &crc, 64), false);
-    assert_eq!(rt; is_still_one(g, &crc, 80), false);
-    Ok(())
-}
-
-#[test]
-fn sums_a_chunk_by_its_table(rt: HostRuntime) -> Result<(), AllocError> {
-    let crc = Crc64::new(rt.alloc())?;
+    expect_same(&rt, is_still_one(g, &crc, BLOCK.len()), true);
+    expect_same(&rt, is_still_one(g, &crc, 8), false);
+    expect_same(&rt, is_still_one(g, &crc, 64), false);
+    expect_same(&rt, is_still_one(g, &crc, 80), false);
     let combiner = Combiner::new(rt.alloc(), &crc, 1)?;
-    let Ok(g) = AloofGeometry::new(2, 4, 4, 1) else {
-        return Ok(());
-    };
-    assert_eq!(rt;
-        extended_by_chunk(g, &combiner, 0, &BLOCK),
-        0x995D_C9BB_DF19_39FA
-    );
+    let sum = extended_by_chunk(g, &combiner, 0, &BLOCK);
+    expect_same(&rt, sum, 0x995D_C9BB_DF19_39FA);
     Ok(())
 }
