@@ -7,7 +7,7 @@ use crate::need::Need;
 use store_map::{Actor, Version};
 
 /// A step at the directory.
-#[derive(Clone, Copy, PartialEq, Eq, Debug)]
+#[derive(Clone, Copy, PartialEq, Eq)]
 pub enum DirectoryAct {
     /// The look with which a client's call begins.
     Look,
@@ -28,7 +28,7 @@ pub enum DirectoryAct {
 }
 
 /// A step at a server, of its chunk of a version.
-#[derive(Clone, Copy, PartialEq, Eq, Debug)]
+#[derive(Clone, Copy, PartialEq, Eq)]
 pub enum ServerAct {
     Prepare(Version),
     Settle(Version),
@@ -47,7 +47,7 @@ pub enum ServerAct {
 }
 
 /// What a call does next.
-#[derive(Clone, Copy, PartialEq, Eq, Debug)]
+#[derive(Clone, Copy, PartialEq, Eq)]
 pub enum Act {
     Directory(DirectoryAct),
     /// At the server of this number.

@@ -6,7 +6,7 @@ use std::alloc::AllocError;
 use store_map::{Found, Placement, Point, Reply, Version};
 
 /// What a call is answered, without the bytes.
-#[derive(Clone, Copy, PartialEq, Eq, Debug)]
+#[derive(Clone, Copy, PartialEq, Eq)]
 pub enum ReplyKind {
     Done,
     Bytes,
@@ -17,7 +17,7 @@ pub enum ReplyKind {
 }
 
 /// What a step at the directory is answered.
-#[derive(Clone, Copy, PartialEq, Eq, Debug)]
+#[derive(Clone, Copy, PartialEq, Eq)]
 pub enum DirectoryAnswer {
     /// A client's look: the map's reply at this point.
     Answered {
@@ -73,7 +73,7 @@ pub enum DirectoryAnswer {
 }
 
 /// What a step at a server is answered.
-#[derive(Clone, Copy, PartialEq, Eq, Debug)]
+#[derive(Clone, Copy, PartialEq, Eq)]
 pub enum ServerAnswer {
     Prepared(Placement),
     Settled,

@@ -1,7 +1,7 @@
 //! Where a call in work goes on: at the directory, at a server, with a coder, or nowhere.
 
 /// Where a call has to go on.
-#[derive(Clone, Copy, PartialEq, Eq, Debug)]
+#[derive(Clone, Copy, PartialEq, Eq)]
 pub enum Need {
     /// At the directory.
     Directory,

@@ -3,7 +3,7 @@ use store_map::{LostChunk, Point, Reply};
 
 /// A change of a write's object since the write looked: the point that the write looked at, and
 /// the point of the change.
-#[derive(Clone, Copy, PartialEq, Eq, Debug)]
+#[derive(Clone, Copy, PartialEq, Eq)]
 pub struct Change {
     pub looked_at: Point,
     pub newer: Point,

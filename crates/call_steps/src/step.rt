@@ -4,14 +4,14 @@ use crate::answer::{DirectoryAnswer, ServerAnswer};
 use store_map::Actor;
 
 /// What a step was answered: by the directory, or by the server that it was made at.
-#[derive(Clone, Copy, PartialEq, Eq, Debug)]
+#[derive(Clone, Copy, PartialEq, Eq)]
 pub enum StepAnswer {
     Directory(DirectoryAnswer),
     Server(ServerAnswer),
 }
 
 /// A step that was made.
-#[derive(Clone, Copy, PartialEq, Eq, Debug)]
+#[derive(Clone, Copy, PartialEq, Eq)]
 pub struct Step {
     pub who: Actor,
     /// How many of its actor's calls had ended before.

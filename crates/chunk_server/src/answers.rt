@@ -3,7 +3,7 @@ use store_map::Found;
 use version_seal::SealedPart;
 
 /// Whether a server holds a version's chunk.
-#[derive(Clone, Copy, PartialEq, Eq, Debug)]
+#[derive(Clone, Copy, PartialEq, Eq)]
 pub enum Presence {
     /// It is there.
     Here,
@@ -21,7 +21,7 @@ pub enum Fetched {
 }
 
 /// What an install is answered.
-#[derive(Clone, Copy, PartialEq, Eq, Debug)]
+#[derive(Clone, Copy, PartialEq, Eq)]
 pub enum Installed {
     /// The chunk was added. The server was emptied so many times before.
     Placed { epoch: u64 },

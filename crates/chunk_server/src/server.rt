@@ -20,7 +20,7 @@ use store_map::{Found, Placement, Version};
 use version_seal::{Opening, SealedChunk, Stamp};
 
 /// Whether the call that put a chunk has committed.
-#[derive(Clone, Copy, PartialEq, Eq, Debug)]
+#[derive(Clone, Copy, PartialEq, Eq)]
 pub enum Mark {
     /// It hasn't, as far as the server was told.
     Prepared,

@@ -16,7 +16,7 @@ use store_map::Call;
 use stripe_dir::Look;
 
 /// What the call does next, or how it has ended.
-#[derive(Clone, Copy, PartialEq, Eq, Debug)]
+#[derive(Clone, Copy, PartialEq, Eq)]
 pub(crate) enum PatchStage {
     /// It looks next, or no try is left.
     Looking,

@@ -24,7 +24,7 @@ use store_map::{Call, Point};
 use stripe_dir::Look;
 
 /// What the call does next, or how it has ended.
-#[derive(Clone, Copy, PartialEq, Eq, Debug)]
+#[derive(Clone, Copy, PartialEq, Eq)]
 pub(crate) enum ReadStage {
     /// It looks next.
     Looking,

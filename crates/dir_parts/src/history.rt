@@ -14,7 +14,7 @@ use std::marker::Model;
 use store_map::{Actor, Name, Reply};
 
 /// What the directory itself replies to a call. None of it has bytes.
-#[derive(Clone, Copy, PartialEq, Eq, Debug)]
+#[derive(Clone, Copy, PartialEq, Eq)]
 pub enum DirectoryReply {
     Done,
     Length(u64),
@@ -24,7 +24,7 @@ pub enum DirectoryReply {
 }
 
 /// What a point stands for.
-#[derive(Clone, Copy, PartialEq, Eq, Debug)]
+#[derive(Clone, Copy, PartialEq, Eq)]
 pub enum Event {
     Answer(DirectoryReply),
     Pinned,
@@ -33,7 +33,7 @@ pub enum Event {
 }
 
 /// A point as it is told: whose call it belongs to, and what it stands for.
-#[derive(Clone, Copy, PartialEq, Eq, Debug)]
+#[derive(Clone, Copy, PartialEq, Eq)]
 pub struct PointEntry {
     pub actor: Actor,
     pub number: u32,

@@ -1,7 +1,7 @@
 //! What a call's gatherings do next, or what they have come to.
 
 /// How far the gatherings of a call are.
-#[derive(Clone, Copy, PartialEq, Eq, Debug)]
+#[derive(Clone, Copy, PartialEq, Eq)]
 pub enum Progress {
     /// The server of this number is asked next.
     Asks(u32),

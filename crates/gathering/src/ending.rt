@@ -1,7 +1,7 @@
 //! Why a gathering has ended without its bytes.
 
 /// How a gathering has ended without its bytes.
-#[derive(Clone, Copy, PartialEq, Eq, Debug)]
+#[derive(Clone, Copy, PartialEq, Eq)]
 pub enum Ending {
     /// More servers were found missing than there are parity chunks.
     TooMany,

@@ -12,7 +12,7 @@ use store_map::Found;
 
 /// Where a course stands: which server is asked for what, or how the gathering has ended. The servers
 /// left to ask are those behind the one that is asked.
-#[derive(Clone, Copy, PartialEq, Eq, Debug)]
+#[derive(Clone, Copy, PartialEq, Eq)]
 pub enum Position {
     /// For the wanted layers. It is the one at this place of those that the first stage asks.
     Fetch {

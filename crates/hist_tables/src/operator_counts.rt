@@ -10,7 +10,7 @@ use std::collections::HashMap;
 use store_map::{Script, Token};
 
 /// What the operator does to a server, or to the pass of an actor.
-#[derive(Clone, Copy, PartialEq, Eq, Debug)]
+#[derive(Clone, Copy, PartialEq, Eq)]
 pub enum OperatorAction {
     Wipe,
     Down,

@@ -1,7 +1,7 @@
 //! The stages of a rebuild, from its look to its end.
 
 /// Where a rebuild stands.
-#[derive(Clone, Copy, PartialEq, Eq, Debug)]
+#[derive(Clone, Copy, PartialEq, Eq)]
 pub(crate) enum RepairStage {
     /// The look is next.
     Start,

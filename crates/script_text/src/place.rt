@@ -4,7 +4,7 @@ ghost use Rattle.script_text.specs.Kinds.{is_call_word, is_step_word, head_named
 ghost use Rattle.script_text.specs.Place.{next_place, next_block, next_repairer};
 
 /// What a line of a script is, by its first word.
-#[derive(Clone, Copy, PartialEq, Eq, Debug)]
+#[derive(Clone, Copy, PartialEq, Eq)]
 pub enum LineKind {
     Clay,
     Code,
@@ -21,7 +21,7 @@ pub enum LineKind {
 }
 
 /// The line behind which the next one stands.
-#[derive(Clone, Copy, PartialEq, Eq, Debug)]
+#[derive(Clone, Copy, PartialEq, Eq)]
 pub enum ScriptPlace {
     Code,
     Size,

@@ -2,7 +2,7 @@
 use store_map::{ListOf, Name, Reply};
 
 /// A server that doesn't hold its chunk of a stripe: its epoch when the chunk was placed, and its epoch now.
-#[derive(Clone, Copy, PartialEq, Eq, Debug)]
+#[derive(Clone, Copy, PartialEq, Eq)]
 pub struct Missing {
     pub server: u32,
     pub placed: u64,
@@ -10,7 +10,7 @@ pub struct Missing {
 }
 
 /// A chunk of an object's stripe that its server doesn't hold.
-#[derive(PartialEq, Eq, Debug, Drop)]
+#[derive(PartialEq, Eq, Drop)]
 pub struct LostChunk {
     pub name: Name,
     pub stripe: u32,
@@ -18,7 +18,7 @@ pub struct LostChunk {
 }
 
 /// A session's answer to a frame.
-#[derive(PartialEq, Eq, Debug, Drop)]
+#[derive(PartialEq, Eq, Drop)]
 pub enum Answer {
     /// A reply of the map. `Done` also to a loss and to a snapshot taken or dropped, `NoSuch` also to a rebuild.
     Replied(Reply),

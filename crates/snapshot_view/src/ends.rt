@@ -12,7 +12,7 @@ use store_map::LostChunk;
 
 /// How a read ends, where that isn't what its gatherings come to: the map refuses it, or memory was
 /// wanting in a coding.
-#[derive(Clone, Copy, PartialEq, Eq, Debug)]
+#[derive(Clone, Copy, PartialEq, Eq)]
 pub(crate) enum Ending {
     NoSuch,
     OutRange,

@@ -10,7 +10,7 @@ pub enum Actor {
 }
 
 /// A line of a script's schedule.
-#[derive(Clone, Copy, PartialEq, Eq, Debug)]
+#[derive(Clone, Copy, PartialEq, Eq)]
 pub enum Token {
     /// The client makes one step.
     Client(u32),
@@ -33,7 +33,7 @@ pub enum Token {
 }
 
 /// A place in the directory's history, counted from 0.
-#[derive(Clone, Copy, PartialEq, Eq, PartialOrd, Ord, Debug)]
+#[derive(Clone, Copy, PartialEq, Eq, PartialOrd, Ord)]
 pub struct Point(pub u64);
 
 /// A stripe's version, numbered from 0 in the order in which the directory drew them.

@@ -34,7 +34,7 @@ pub enum Call {
 }
 
 /// A repairer's call: make the server's chunk of one stripe of an object anew.
-#[derive(PartialEq, Eq, Debug, Drop)]
+#[derive(PartialEq, Eq, Drop)]
 pub struct Rebuild {
     pub name: Name,
     pub stripe: u32,

@@ -6,21 +6,21 @@ use std::fmt;
 
 /// A client's call: the client, and the call's place among its calls. Both are counted from 0, and
 /// the call is printed `cI.N`.
-#[derive(Clone, Copy, PartialEq, Eq, Debug)]
+#[derive(Clone, Copy, PartialEq, Eq)]
 pub struct ClientCall {
     pub client: u32,
     pub number: u32,
 }
 
 /// A repairer's call, counted likewise. It is printed `rI.N`.
-#[derive(Clone, Copy, PartialEq, Eq, Debug)]
+#[derive(Clone, Copy, PartialEq, Eq)]
 pub struct RepairCall {
     pub repairer: u32,
     pub number: u32,
 }
 
 /// A call of either.
-#[derive(Clone, Copy, PartialEq, Eq, Debug)]
+#[derive(Clone, Copy, PartialEq, Eq)]
 pub enum CallName {
     Client(ClientCall),
     Repairer(RepairCall),

@@ -8,7 +8,7 @@ use std::fmt;
 
 /// A server that lacked its chunk of a stripe: what it answered when the chunk was to be placed,
 /// and what it answered when it was asked. Printed `J/P/F`.
-#[derive(Clone, Copy, PartialEq, Eq, Debug)]
+#[derive(Clone, Copy, PartialEq, Eq)]
 pub struct Triple {
     pub server: u64,
     pub placed: Placement,
@@ -59,7 +59,7 @@ impl fmt::Display for Triple {
 }
 
 /// Why a client's call was refused.
-#[derive(Debug, Drop)]
+#[derive(Drop)]
 pub enum Cause {
     /// More chunks of the stripe were missing than the code can make anew. At least one is listed.
     Unavailable {
@@ -80,7 +80,7 @@ pub enum Cause {
 }
 
 /// What a repairer's call came to.
-#[derive(Debug, Drop)]
+#[derive(Drop)]
 pub enum RepairResult {
     /// The chunk was made and installed.
     Rebuilt,

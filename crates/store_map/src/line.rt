@@ -6,7 +6,7 @@ use crate::name::Name;
 use crate::shown::Shown;
 
 /// `H P CALL REPLY`: at point P the client's call stands with this reply.
-#[derive(Debug, Drop)]
+#[derive(Drop)]
 pub struct HLine {
     pub point: u64,
     pub call: ClientCall,
@@ -14,34 +14,34 @@ pub struct HLine {
 }
 
 /// `X CALL CAUSE`: the client's call was refused.
-#[derive(Debug, Drop)]
+#[derive(Drop)]
 pub struct XLine {
     pub call: ClientCall,
     pub cause: Cause,
 }
 
 /// `R CALL RESULT`: the repairer's call has this result.
-#[derive(Debug, Drop)]
+#[derive(Drop)]
 pub struct RLine {
     pub call: RepairCall,
     pub result: RepairResult,
 }
 
 /// `O CALL`: the call made a step and has no reply.
-#[derive(Debug, Drop)]
+#[derive(Drop)]
 pub struct OLine {
     pub call: CallName,
 }
 
 /// `L NAME LENGTH`: an object at the end, and its length in bytes.
-#[derive(Debug, Drop)]
+#[derive(Drop)]
 pub struct LLine {
     pub name: Name,
     pub length: u64,
 }
 
 /// `G CALL N0 N1 ..`: the subchunks that the call took, one number for each server.
-#[derive(Debug, Drop)]
+#[derive(Drop)]
 pub struct GLine {
     pub call: CallName,
     pub takes: ListOf<u64>,
@@ -49,7 +49,7 @@ pub struct GLine {
 
 /// `T J TAKEN HELD EPOCH`: server J at the end, with the subchunks that were taken from it, the
 /// versions that it holds, and how often it was emptied.
-#[derive(Debug, Drop)]
+#[derive(Drop)]
 pub struct TLine {
     pub server: u32,
     pub taken: u64,

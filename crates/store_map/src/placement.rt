@@ -1,7 +1,7 @@
 //! How a server took a version's chunk, why it gives none, and both of a lost chunk.
 
 /// Where a version's chunk stands at a server: what the server answered when it was to keep the chunk.
-#[derive(Clone, Copy, PartialEq, Eq, Debug)]
+#[derive(Clone, Copy, PartialEq, Eq)]
 pub enum Placement {
     /// It was placed, at this epoch of the server.
     At(u64),
@@ -10,7 +10,7 @@ pub enum Placement {
 }
 
 /// Why a server gives no chunk of a version.
-#[derive(Clone, Copy, PartialEq, Eq, Debug)]
+#[derive(Clone, Copy, PartialEq, Eq)]
 pub enum Found {
     /// It doesn't hold the chunk, at this epoch.
     Absent { epoch: u64 },
@@ -20,7 +20,7 @@ pub enum Found {
 
 /// A server that gives no chunk of a stripe's version: how it took the chunk, as the look told it,
 /// and what it answered when it was asked.
-#[derive(Clone, Copy, PartialEq, Eq, Debug)]
+#[derive(Clone, Copy, PartialEq, Eq)]
 pub struct LostChunk {
     pub server: u32,
     pub placed: Placement,

@@ -2,7 +2,7 @@
 use crate::list_of::ByteList;
 
 /// What a call is answered.
-#[derive(PartialEq, Eq, Debug, Drop)]
+#[derive(PartialEq, Eq, Drop)]
 pub enum Reply {
     /// A put, a write or a delete was made.
     Done,

@@ -8,14 +8,14 @@ use crate::list_of::ListOf;
 use clay_grid::Geometry;
 
 /// A client's calls in order, and the most steps that its last call may make.
-#[derive(PartialEq, Eq, Debug, Drop)]
+#[derive(PartialEq, Eq, Drop)]
 pub struct ClientPart {
     pub calls: ListOf<Call>,
     pub leave: Option<u32>,
 }
 
 /// A repairer's calls in order, and the most steps that its last call may make.
-#[derive(PartialEq, Eq, Debug, Drop)]
+#[derive(PartialEq, Eq, Drop)]
 pub struct RepairPart {
     pub calls: ListOf<Rebuild>,
     pub leave: Option<u32>,

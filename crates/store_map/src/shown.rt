@@ -2,7 +2,7 @@
 use crate::reply::Reply;
 
 /// What a line of the history shows of a call.
-#[derive(Debug, Drop)]
+#[derive(Drop)]
 pub enum Shown {
     Reply(Reply),
     /// The call took effect and its caller got no reply. Printed `open`.

@@ -3,7 +3,7 @@ use crate::line::{GLine, HLine, LLine, OLine, RLine, TLine, XLine};
 use crate::list_of::ListOf;
 
 /// The lines of a run, kind by kind in the order in which they are written.
-#[derive(Debug, Drop)]
+#[derive(Drop)]
 pub struct Transcript {
     pub history: ListOf<HLine>,
     pub refused: ListOf<XLine>,

@@ -14,7 +14,7 @@ use store_map::{
 };
 
 /// A line of a transcript.
-#[derive(Debug, Drop)]
+#[derive(Drop)]
 pub enum Line {
     History(HLine),
     Refused(XLine),

@@ -3,7 +3,7 @@ ghost use Rattle.std.specs.Prelude.{◌≡◌};
 ghost use Rattle.write_course.specs.States.{prepares_or_commits, settles_or_is_done};
 
 /// What a writing does next, or how it has ended.
-#[derive(Clone, Copy, PartialEq, Eq, Debug)]
+#[derive(Clone, Copy, PartialEq, Eq)]
 pub enum WritingStage {
     /// A version's chunk goes to a server next.
     Preparing,
