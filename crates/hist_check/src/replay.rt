@@ -5,7 +5,7 @@ ghost use Rattle.store_map.specs.History.{replies_from, apply_all};
 ghost use Rattle.hist_rules.specs.First.{first_fault};
 ghost use Rattle.hist_rules.specs.RepliesMatch.{reply_matches, calls_in};
 
-use crate::replies::{copy_shown, shows_reply};
+use crate::replies::shows_reply;
 use hist_rules::Verdict;
 use hist_tables::call_of;
 use std::alloc::AllocError;
@@ -21,7 +21,7 @@ fn reply_matches(script: &Script, line: &HLine, reply: Reply) -> Result<Option<V
     Ok(Some(Verdict::Differs {
         call: CallName::Client(line.call),
         expected: reply,
-        got: copy_shown(&line.reply)?,
+        got: line.reply.copy()?,
     }))
 }
 

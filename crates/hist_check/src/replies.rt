@@ -1,10 +1,9 @@
-//! Replies beside what lines show: whether they agree, and copies of what is shown.
-ghost use Rattle.std.specs.Prelude.{◌≡◌, IfOk};
+//! Replies beside what lines show: whether they agree.
+ghost use Rattle.std.specs.Prelude.{◌≡◌};
 ghost use Rattle.std.specs.Option.{option_copied};
 ghost use Rattle.hist_rules.specs.RepliesMatch.{same_reply, is_put_or_write, shows_reply};
 ghost use Rattle.hist_rules.specs.Named.{is_ok};
 
-use std::alloc::AllocError;
 use store_map::{Call, Reply, Shown};
 
 // Whether two replies are the same.
@@ -44,27 +43,5 @@ pub fn shows_reply(call: Option<&Call>, reply: &Reply, shown: &Shown) -> bool
             Some(call) => is_ok(reply) && is_put_or_write(call),
             None => false,
         },
-    }
-}
-
-fn copy_reply(reply: &Reply) -> Result<Reply, AllocError>
-    ensures { IfOk result (λ copy. copy ≡ reply.now) }
-{
-    Ok(match reply {
-        Reply::Done => Reply::Done,
-        Reply::Bytes(bytes) => Reply::Bytes(bytes.copy()?),
-        Reply::Length(length) => Reply::Length(*length),
-        Reply::NoSuch => Reply::NoSuch,
-        Reply::OutRange => Reply::OutRange,
-        Reply::TooLarge => Reply::TooLarge,
-    })
-}
-
-pub fn copy_shown(shown: &Shown) -> Result<Shown, AllocError>
-    ensures { IfOk result (λ copy. copy ≡ shown.now) }
-{
-    match shown {
-        Shown::Reply(reply) => Ok(Shown::Reply(copy_reply(reply)?)),
-        Shown::Unfinished => Ok(Shown::Unfinished),
     }
 }

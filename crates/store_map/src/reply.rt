@@ -1,5 +1,8 @@
 //! The plain map's replies.
+ghost use Rattle.std.specs.Prelude.{◌≡◌, IfOk};
+
 use crate::list_of::ByteList;
+use std::alloc::AllocError;
 
 /// What a call is answered.
 #[derive(PartialEq, Eq, Drop)]
@@ -16,4 +19,20 @@ pub enum Reply {
     OutRange,
     /// The object would have more bytes than the map allows.
     TooLarge,
+}
+
+impl Reply {
+    /// The same reply in memory of its own.
+    pub fn copy(&self) -> Result<Reply, AllocError>
+        ensures { IfOk result (λ copy. copy ≡ self.now) }
+    {
+        Ok(match self {
+            Reply::Done => Reply::Done,
+            Reply::Bytes(bytes) => Reply::Bytes(bytes.copy()?),
+            Reply::Length(length) => Reply::Length(*length),
+            Reply::NoSuch => Reply::NoSuch,
+            Reply::OutRange => Reply::OutRange,
+            Reply::TooLarge => Reply::TooLarge,
+        })
+    }
 }
