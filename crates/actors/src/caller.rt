@@ -24,7 +24,7 @@ ghost use Rattle.actors.specs.Steps.{BeginsCall, IsReadyIn, MadeAtDirectory, Mad
 ghost use Rattle.actors.specs.CallerTurns.{HasMore, TellsCallerTurn};
 ghost use Rattle.actors.specs.Inside.{AreOfServers, part_by, served_of};
 
-use crate::after_step::{conclude, put, take};
+use crate::after_step::{conclude, forget, put, take};
 use crate::left::has_step;
 use crate::next_call::next_call;
 use crate::part::Part;
@@ -279,11 +279,13 @@ impl<'a> Caller<'a> {
         let act = self.act();
         let answer = match self.need() {
             Need::Directory => {
-                let (_last, answer) = self.on_directory(directory, book);
+                let (last, answer) = self.on_directory(directory, book);
+                forget(last);
                 StepAnswer::Directory(answer)
             }
             Need::Server(server) => {
-                let (_last, answer) = self.on_server(&mut servers[server as usize]);
+                let (last, answer) = self.on_server(&mut servers[server as usize]);
+                forget(last);
                 StepAnswer::Server(answer)
             }
             _ => unreachable!(),

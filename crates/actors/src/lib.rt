@@ -9,5 +9,6 @@ mod next_call;
 mod part;
 mod steps;
 
+pub use after_step::forget;
 pub use caller::Caller;
 pub use part::Part;
