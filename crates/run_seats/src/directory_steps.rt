@@ -10,7 +10,7 @@ ghost use Rattle.run_seats.specs.Stepped.{HasSteppedAtDirectory};
 use crate::directory_box::DirectoryBox;
 use crate::gate::{Gate, Place};
 use crate::stepper::Stepper;
-use actors::Caller;
+use actors::{Caller, forget};
 use call_machine::CallMachine;
 use std::snapshot::Snapshot;
 use std::sync::Wait;
@@ -32,6 +32,9 @@ fn give_step(
     requires stands { DirectoryStands held (turn.old.seen ++ entry ∷ []) }
     ensures { turn.new ≡ gave entry turn.old }
 {
+    forget(before);
+    forget(stood);
+    forget(left);
     lock.give_by(turn, held, number)
 }
 

@@ -18,6 +18,7 @@ use crate::directory_box::DirectoryBox;
 use crate::gate::{Gate, Place};
 use crate::server_box::ServerBox;
 use crate::stepper::Stepper;
+use actors::forget;
 use chunk_server::Server;
 use std::snapshot::Snapshot;
 use std::sync::Wait;
@@ -52,6 +53,7 @@ fn give_server(
     requires stands { ServerStands held (turn.old.seen ++ entry ∷ []) }
     ensures { turn.new ≡ gave entry turn.old }
 {
+    forget(before);
     lock.give_by(turn, held, number)
 }
 
@@ -69,6 +71,7 @@ fn give_directory(
     requires stands { DirectoryStands held (turn.old.seen ++ entry ∷ []) }
     ensures { turn.new ≡ gave entry turn.old }
 {
+    forget(before);
     lock.give_by(turn, held, number)
 }
 

@@ -10,7 +10,7 @@ ghost use Rattle.run_seats.specs.Stepped.{HasSteppedAtServer};
 use crate::gate::{Gate, Place};
 use crate::server_box::ServerBox;
 use crate::stepper::Stepper;
-use actors::Caller;
+use actors::{Caller, forget};
 use call_machine::CallMachine;
 use std::snapshot::Snapshot;
 use std::sync::Wait;
@@ -31,6 +31,9 @@ fn give_step(
     requires stands { ServerStands held (turn.old.seen ++ entry ∷ []) }
     ensures { turn.new ≡ gave entry turn.old }
 {
+    forget(before);
+    forget(stood);
+    forget(left);
     lock.give_by(turn, held, number)
 }
 

@@ -13,6 +13,7 @@ use crate::directory_box::DirectoryBox;
 use crate::gate::{Gate, Place};
 use crate::server_box::ServerBox;
 use crate::stepper::Stepper;
+use actors::forget;
 use std::snapshot::Snapshot;
 use std::sync::Wait;
 use stripe_dir::Directory;
@@ -40,6 +41,8 @@ fn give_server(
     requires stands { ServerStands held (turn.old.seen ++ entry ∷ []) }
     ensures { turn.new ≡ gave entry turn.old }
 {
+    forget(before);
+    forget(stood);
     lock.give_by(turn, held, number)
 }
 
@@ -57,6 +60,8 @@ fn give_directory(
     requires stands { DirectoryStands held (turn.old.seen ++ entry ∷ []) }
     ensures { turn.new ≡ gave entry turn.old }
 {
+    forget(before);
+    forget(stood);
     lock.give_by(turn, held, number)
 }
 
