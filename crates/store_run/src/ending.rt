@@ -91,9 +91,9 @@ impl Left {
         Ok(Left {
             clients: Vec::with_capacity(alloc, script.clients.len())?,
             repairers: Vec::with_capacity(alloc, script.repairers.len())?,
-            sweeper: Sweeper::new(script.geometry.n()),
             directory: Vec::with_capacity(alloc, actors)?,
             rows: Vec::with_capacity(alloc, actors)?,
+            sweeper: Sweeper::new(script.geometry.n()),
         })
     }
 

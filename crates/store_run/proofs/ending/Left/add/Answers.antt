@@ -2,14 +2,34 @@ use Rattle.std.proofs.Common.{◌<◌, ◌∷◌, ◌++◌, [], length, vec_capa
 use Rattle.run_seats.specs.declared.turns.Turns.{Turns}
 use Rattle.store_run.specs.Leaving.{Leaves}
 use Rattle.store_run.specs.declared.ending.Left.{Left}
-use Rattle.store_run.proofs.Leaving.{client_leaves, operator_leaves, repairer_leaves, room_for_row, room_stays, sweeper_leaves}
+use Rattle.store_run.proofs.Leaving.{client_leaves, operator_leaves, repairer_leaves, room_for_client, room_for_repairer, room_for_row, room_for_turn, room_stays, sweeper_leaves}
 use Rattle.store_run.proofs.ending.Left.add.Goals as goal
+
+pub push_reserved-requires : goal.push_reserved-requires
+push_reserved-requires c =
+    let left : Left = c.args.self.now in
+    let less : length left.directory.items < vec_capacity left.directory = room_for_turn c.requires.0 c.requires.1 c.args.actor left c.requires.2 in
+    omega (arith, less, left.directory.ok.0)
 
 pub push_reserved-requires-2 : goal.push_reserved-requires-2
 push_reserved-requires-2 c =
     let left : Left = c.args.self.now in
     let less : length left.rows.items < vec_capacity left.rows = room_for_row c.requires.0 c.requires.1 c.args.actor left c.requires.2 in
     omega (arith, less, left.rows.ok.0)
+
+pub push_reserved-requires-in-Client : goal.push_reserved-requires-in-Client
+push_reserved-requires-in-Client c =
+    let left : Left = c.args.self.now in
+    let less : length left.clients.items < vec_capacity left.clients =
+    room_for_client c.requires.0 c.requires.1 c.args.actor left c.requires.2 c.in-Client.calls (subst (Leaves c.args.actor) c.in-Client.is c.leave-turns.ensures.leaves) in
+    omega (arith, less, left.clients.ok.0)
+
+pub push_reserved-requires-in-Repairer : goal.push_reserved-requires-in-Repairer
+push_reserved-requires-in-Repairer c =
+    let left : Left = c.args.self.now in
+    let less : length left.repairers.items < vec_capacity left.repairers =
+    room_for_repairer c.requires.0 c.requires.1 c.args.actor left c.requires.2 c.in-Repairer.calls (subst (Leaves c.args.actor) c.in-Repairer.is c.leave-turns.ensures.leaves) in
+    omega (arith, less, left.repairers.ok.0)
 
 pub returns-in-Client : goal.returns-in-Client
 returns-in-Client c store done next =
