@@ -1,10 +1,39 @@
-use Rattle.std.proofs.Common.{ℕ, ◌≤◌, length, sym, subst, ◌∙◌}
-use Rattle.call_machine.specs.Calls.{MachineOf}
+use Rattle.std.proofs.Common.{◌≡◌, ℕ, ◌≤◌, length, Option, Some, IfSome, sym, ap, subst, ◌∙◌}
+use Rattle.store_core.specs.Agreement.{Agrees}
+use Rattle.call_machine.specs.Calls.{ArePadded, KnowsOldOf, MachineOf}
+use Rattle.call_machine.specs.Kinds.{machine_of, IfPatches}
+use Rattle.world_laws.specs.Tokens.{token_of}
 use Rattle.actors.specs.Callers.{CallerOf, calls_of}
-use Rattle.actors.specs.Inside.{caller_by, part_by}
+use Rattle.actors.specs.Inside.{caller_by, doing_by, part_by}
 use Rattle.actors.specs.Steps.{MadeAtDirectory, MakesStep}
 use Rattle.actors.proofs.Stepping.{counts_servers, in_work_at, knows_after, makes_by, same_there, stays_in_work}
 use Rattle.actors.proofs.caller.Caller.on_directory.Goals as goal
+
+pub step_call_at_directory-made-requires-clause-goes : goal.step_call_at_directory-made-requires-clause-goes
+step_call_at_directory-made-requires-clause-goes c =
+    let a : _ = c.self.inside in
+    let need : _ = c.requires.need in
+    let was : a.call ≡ Some need.call = ap (λ (x : CallerOf). x.work) c.self.view_is ∙ need.was in
+    let work : _ = in_work_at a.opening (part_by a.part) (length a.ended.items) a.call need.call c.self.invariant.kept was in
+    let token : token_of c.args.self.now.actor.doing ≡ need.call.call.token =
+    sym (ap (λ (x : CallerOf). token_of x.actor.doing) c.self.view_is) ∙ ap (λ (o : Option MachineOf). token_of (doing_by a.seat o a.steps)) was in
+    record {
+      call = need.call;
+      was = was;
+      needs = need.is;
+      agrees = subst (Agrees c.args.directory.now.core) token c.requires.agrees;
+      its = c.requires.its ∙ sym (ap (λ (x : CallerOf). x.book) c.self.view_is) ∙ sym work.its;
+      padded = subst (λ (o : Option MachineOf). IfSome o (λ (m : MachineOf). IfPatches (machine_of m.asked) (ArePadded c.args.directory.now))) need.was c.requires.padded;
+      knows = subst (λ (o : Option MachineOf). IfSome o (KnowsOldOf c.args.directory.now)) need.was c.requires.knows;
+    }
+
+pub step_call_at_directory-made-requires-clause-book : goal.step_call_at_directory-made-requires-clause-book
+step_call_at_directory-made-requires-clause-book c =
+    let a : _ = c.self.inside in
+    let need : _ = c.requires.need in
+    let was : a.call ≡ Some need.call = ap (λ (x : CallerOf). x.work) c.self.view_is ∙ need.was in
+    let work : _ = in_work_at a.opening (part_by a.part) (length a.ended.items) a.call need.call c.self.invariant.kept was in
+    subst (λ (o : Option MachineOf). IfSome o (λ (m : MachineOf). c.args.book.now ≡ m.call.book)) (sym was) (c.requires.book ∙ sym (ap (λ (x : CallerOf). x.book) c.self.view_is) ∙ sym work.its)
 
 pub conclude-requires-clause-servers : goal.conclude-requires-clause-servers
 conclude-requires-clause-servers c =
