@@ -7,7 +7,7 @@ use Rattle.store_map.specs.declared.actor.Actor.TheVariants as actor
 use Rattle.store_core.specs.Agreement.{Seat}
 use Rattle.stripe_dir.specs.Seats.{client_seat, first_seat, first_seats, repairer_seat}
 use Rattle.actors.specs.Callers.{PartOf, who_of}
-use Rattle.thread_laws.specs.Numbers.{Counts, actor_at}
+use Rattle.thread_laws.specs.Numbers.{Counts, IsTurnOf, actor_at}
 use Rattle.thread_laws.proofs.Numbers.{clients_come_first, repairers_follow}
 
 module _ (of : Counts) where
@@ -65,6 +65,13 @@ module _ (of : Counts) where
   -- there is one
   pub seat_there : (number : ℕ) → number < of.clients + of.repairers → length (take (number + 1) (first_seats of.clients of.repairers)) ≡ number + 1
   seat_there number less = length-take-le (number + 1) seats (omega (arith, less, seat_count))
+
+  -- ---- whose turns have their numbers
+  pub client_turn : (place : ℕ) → place < of.clients → IsTurnOf of place (actor.Client place)
+  client_turn place less = record { below = omega (arith, less); whose = sym (clients_come_first of place less) }
+
+  pub repairer_turn : (place : ℕ) → place < of.repairers → IsTurnOf of (of.clients + place) (actor.Repairer place)
+  repairer_turn place less = record { below = omega (arith, less); whose = sym (repairers_follow of place less) }
 
   -- ---- clients and repairers have the numbers below those of the sweeper and the operator
   is_no_other : (b : Bool) (place : ℕ) (part : PartOf) → who_of part place ≡ (if b then actor.Sweeper else actor.Operator) → ⊥
