@@ -1,5 +1,5 @@
 -- The seats of a script's callers, taken from the greatest number down.
-use Rattle.std.proofs.Common.{◌≡◌, ℕ, ◌+◌, ◌-◌, ◌<◌, ◌≤◌, Bool, true, false, nat_lt, nat_eq, if◌then◌else◌, List, [], ◌∷◌, ◌++◌, length, length-append, map, take, take_at, take-take, get_or, get_or-take, sym, ap, subst, ◌∙◌, refl, arith, ltb-true, ltb-false, le-ltb}
+use Rattle.std.proofs.Common.{◌≡◌, ℕ, ◌+◌, ◌-◌, ◌<◌, ◌≤◌, Bool, true, false, nat_lt, nat_eq, if◌then◌else◌, List, [], ◌∷◌, ◌++◌, length, length-append, map, take, take_at, take-take, get_or, get_or-take, sym, ap, subst, ◌∙◌, refl, arith, eq-eqb, ltb-true, ltb-false, le-ltb, ne_eqb}
 use Rattle.std.proofs.lemmas.List.{get_or_append_left, get_or-append_right, get_or_push, length_push, length-take-le}
 use Rattle.std.proofs.lemmas.List.FromFn.{get_or-map-range_with_len, length-map-range_with_len}
 use Rattle.std.specs.List.{range_with_len}
@@ -72,6 +72,34 @@ module _ (of : Counts) where
 
   pub repairer_turn : (place : ℕ) → place < of.repairers → IsTurnOf of (of.clients + place) (actor.Repairer place)
   repairer_turn place less = record { below = omega (arith, less); whose = sym (repairers_follow of place less) }
+
+  -- no caller's number is as great as these
+  others_at : (n : ℕ) → of.clients + of.repairers ≤ n → actor_at of n ≡ (if nat_eq n (of.clients + of.repairers) then actor.Sweeper else actor.Operator)
+  others_at n above =
+      let no_client : nat_lt n of.clients ≡ false = le-ltb n of.clients (omega (arith, above)) in
+      let no_repairer : nat_lt n (of.clients + of.repairers) ≡ false = le-ltb n (of.clients + of.repairers) above in
+      λ i. if no_client i then actor.Client n
+      else (if no_repairer i then actor.Repairer (n - of.clients) else (if nat_eq n (of.clients + of.repairers) then actor.Sweeper else actor.Operator))
+
+  pub sweeper_turn : IsTurnOf of (of.clients + of.repairers) actor.Sweeper
+  sweeper_turn =
+      record {
+        below = omega arith;
+        whose =
+            sym
+            (others_at (of.clients + of.repairers) (omega arith)
+            ∙ ap (λ (b : Bool). if b then actor.Sweeper else actor.Operator) (eq-eqb (of.clients + of.repairers) (of.clients + of.repairers) refl));
+      }
+
+  pub operator_turn : IsTurnOf of (of.clients + of.repairers + 1) actor.Operator
+  operator_turn =
+      record {
+        below = omega arith;
+        whose =
+            sym
+            (others_at (of.clients + of.repairers + 1) (omega arith)
+            ∙ ap (λ (b : Bool). if b then actor.Sweeper else actor.Operator) (ne_eqb (of.clients + of.repairers + 1) (of.clients + of.repairers) (λ same. omega (arith, same))));
+      }
 
   -- ---- clients and repairers have the numbers below those of the sweeper and the operator
   is_no_other : (b : Bool) (place : ℕ) (part : PartOf) → who_of part place ≡ (if b then actor.Sweeper else actor.Operator) → ⊥
