@@ -1,24 +1,23 @@
 //! Codewords recovered by the fast coder from what is left of them, and chunks that are of none.
-ghost use Rattle.std.specs.Prelude.{◌≡◌, length, IfOk, IfSome};
+ghost use Rattle.std.specs.Prelude.{◌≡◌, length, IfSome};
 ghost use Rattle.clay_grid.specs.Shape.{chunk_count, chunk_length};
 ghost use Rattle.clay_model.specs.Left.{AreLong};
 
-use crate::encoding::{CODES, expect_chunks, geometries, word_of};
+use crate::encoding::{CODES, code, expect_chunks, filled, geometries, word_of};
 use crate::{expect_bytes, expect_same};
 use clay_grid::Geometry;
 use clay_lanes::{decode, decode_checked, missing, missing_count, missing_into};
 use clay_model::{CheckedFault, DecodeFault};
-use std::alloc::{AllocError, Global};
+use std::alloc::Global;
 use std::process::Abort;
-use std::test::Fail;
 
-fn part_of(alloc: Global, chunk: &[u8], gone: bool) -> Result<Option<Vec<u8>>, AllocError>
-    ensures { IfOk result (λ o. IfSome o (λ v. length v.items ≡ length chunk.now)) }
+fn part_of(rt: &impl Abort, alloc: Global, chunk: &[u8], gone: bool) -> Option<Vec<u8>>
+    ensures { IfSome result (λ v. length v.items ≡ length chunk.now) }
 {
     if gone {
-        return Ok(None);
+        return None;
     }
-    Ok(Some(Vec::from_slice(alloc, chunk)?))
+    Some(Vec::from_slice(alloc, chunk).expect(rt, "a copy"))
 }
 
 // What is left of chunks where those of the bits of `gone` are missing.
@@ -28,19 +27,19 @@ pub fn left_of(
     g: Geometry,
     chunks: &[Vec<u8>],
     gone: u32,
-) -> Result<Vec<Option<Vec<u8>>>, AllocError>
-    ensures count { IfOk result (λ have. length have.items ≡ chunk_count g) }
-    ensures lengths { IfOk result (λ have. AreLong (chunk_length g) have.items) }
+) -> Vec<Option<Vec<u8>>>
+    ensures count { length result.items ≡ chunk_count g }
+    ensures lengths { AreLong (chunk_length g) result.items }
 {
-    assert!(rt; chunks.len() == g.n() as usize);
-    assert!(rt; g.n() < 32);
+    assert!(rt; chunks.len() == g.n() as usize && g.n() < 32);
     let mut have = Vec::new(alloc);
     for c in 0..g.n() {
         let chunk = &chunks[c as usize];
         assert!(rt; chunk.len() == g.chunk_len() as usize);
-        have.push(part_of(alloc, chunk, gone >> c & 1 == 1)?)?;
+        let part = part_of(rt, alloc, chunk, gone >> c & 1 == 1);
+        have.push(part).expect(rt, "room");
     }
-    Ok(have)
+    have
 }
 
 // The bytes are those that were there before.
@@ -77,15 +76,14 @@ fn check_missing_into(
     g: Geometry,
     have: &[Option<Vec<u8>>],
     word: &[Vec<u8>],
-) -> Result<(), Fail>
+)
     requires count { length have.now ≡ chunk_count g }
     requires lengths { AreLong (chunk_length g) have.now }
 {
     let len = g.chunk_len() as usize;
-    let mut bytes = vec![in alloc; 0xa5u8; g.n() as usize * len]?;
-    missing_into(alloc, g, have, &mut bytes)?;
+    let mut bytes = filled(rt, alloc, 0xa5, g.n() as usize * len);
+    missing_into(alloc, g, have, &mut bytes).expect(rt, "missing_into");
     expect_places(rt, &bytes, len, have, word);
-    Ok(())
 }
 
 // Too few chunks are refused.
@@ -101,6 +99,20 @@ fn check_refused(rt: &impl Abort, alloc: Global, g: Geometry, have: &[Option<Vec
     expect_same(rt, refused, Some(CheckedFault::TooFew));
 }
 
+// The chunks are those of the word that are missing.
+fn expect_lost(rt: &impl Abort, lost: &[Vec<u8>], have: &[Option<Vec<u8>>], word: &[Vec<u8>]) {
+    let mut place = 0;
+    for (c, chunk) in word.iter().enumerate() {
+        assert!(rt; c < have.len());
+        if have[c].is_none() {
+            assert!(rt; place < lost.len());
+            expect_bytes(rt, &lost[place], chunk);
+            place += 1;
+        }
+    }
+    assert!(rt; place == lost.len());
+}
+
 // The chunks of the codeword come back, and the missing ones alone.
 fn check_recovered(
     rt: &impl Abort,
@@ -108,99 +120,81 @@ fn check_recovered(
     g: Geometry,
     have: &[Option<Vec<u8>>],
     word: &[Vec<u8>],
-    lost: &[Vec<u8>],
-) -> Result<(), Fail>
+)
     requires count { length have.now ≡ chunk_count g }
     requires lengths { AreLong (chunk_length g) have.now }
 {
-    expect_chunks(rt, &decode(alloc, g, have)?, word);
-    expect_chunks(rt, &decode_checked(alloc, g, have)?, word);
-    expect_chunks(rt, &missing(alloc, g, have)?, lost);
-    Ok(())
-}
-
-// The chunks of the bits of `gone`.
-fn lost_of(
-    rt: &impl Abort,
-    alloc: Global,
-    word: &[Vec<u8>],
-    gone: u32,
-) -> Result<Vec<Vec<u8>>, AllocError> {
-    assert!(rt; word.len() < 32);
-    let mut lost = Vec::new(alloc);
-    for (c, chunk) in word.iter().enumerate() {
-        if gone >> c & 1 == 1 {
-            lost.push(Vec::from_slice(alloc, chunk)?)?;
-        }
-    }
-    Ok(lost)
+    let chunks = decode(alloc, g, have).expect(rt, "decode");
+    expect_chunks(rt, &chunks, word);
+    let chunks = decode_checked(alloc, g, have).expect(rt, "decode_checked");
+    expect_chunks(rt, &chunks, word);
+    let lost = missing(alloc, g, have).expect(rt, "missing");
+    expect_lost(rt, &lost, have, word);
+    check_missing_into(rt, alloc, g, have, word);
 }
 
 // Recovers the chunks of the bits of `gone`.
-fn check_loss(
-    rt: &impl Abort,
-    alloc: Global,
-    g: Geometry,
-    word: &[Vec<u8>],
-    gone: u32,
-) -> Result<(), Fail> {
-    let have = left_of(rt, alloc, g, word, gone)?;
+fn check_loss(rt: &impl Abort, alloc: Global, g: Geometry, word: &[Vec<u8>], gone: u32) {
+    let have = left_of(rt, alloc, g, word, gone);
     if missing_count(&have) > g.m() as usize {
         check_refused(rt, alloc, g, &have);
-        return Ok(());
+    } else {
+        check_recovered(rt, alloc, g, &have, word);
     }
-    check_missing_into(rt, alloc, g, &have, word)?;
-    let lost = lost_of(rt, alloc, word, gone)?;
-    check_recovered(rt, alloc, g, &have, word, &lost)
 }
 
 // Loses no chunk, the last data chunk, the first parity chunk, as many as there are parity chunks (the
 // first data chunks, the first parity chunks, some of each), and one too many.
-fn check_word(rt: &impl Abort, alloc: Global, g: Geometry, word: &[Vec<u8>]) -> Result<(), Fail> {
+fn check_losses(rt: &impl Abort, alloc: Global, g: Geometry) {
+    let word = word_of(rt, alloc, g);
     assert!(rt; g.n() < 32);
+    let (first, last) = (1u32 << g.k(), 1u32 << (g.n() - 1));
     let some = (1u32 << g.m()) - 1;
-    check_loss(rt, alloc, g, word, 0)?;
-    check_loss(rt, alloc, g, word, 1 << (g.k() - 1))?;
-    check_loss(rt, alloc, g, word, 1 << g.k())?;
-    check_loss(rt, alloc, g, word, some)?;
-    check_loss(rt, alloc, g, word, some << g.k())?;
-    check_loss(rt, alloc, g, word, (some >> 1) << 1 | 1 << (g.n() - 1))?;
-    check_loss(rt, alloc, g, word, some | 1 << (g.n() - 1))
-}
-
-fn check_losses(rt: &impl Abort, alloc: Global, g: Geometry) -> Result<(), Fail> {
-    check_word(rt, alloc, g, &word_of(alloc, g)?)
+    let mixed = (some >> 1) << 1 | last;
+    for gone in [
+        0,
+        first >> 1,
+        first,
+        some,
+        some << g.k(),
+        mixed,
+        some | last,
+    ] {
+        check_loss(rt, alloc, g, &word, gone);
+    }
 }
 
 #[test]
-fn codes_recover_alike(rt: HostRuntime) -> Result<(), Fail> {
-    for g in geometries(rt.alloc())?.iter() {
-        check_losses(&rt, rt.alloc(), *g)?;
+fn codes_recover_alike(rt: HostRuntime) {
+    for g in geometries(&rt, rt.alloc()).iter() {
+        check_losses(&rt, rt.alloc(), *g);
     }
-    Ok(())
 }
 
-// Changes a bit of one of the chunks of some stripe, and loses the last one: what is left is more than makes a codeword, and of none.
-fn check_change(rt: &impl Abort, alloc: Global, g: Geometry, changed: usize) -> Result<(), Fail> {
-    let mut word = word_of(alloc, g)?;
-    assert!(rt; g.n() < 32);
+// Changes a bit of a chunk.
+fn change(rt: &impl Abort, word: &mut [Vec<u8>], changed: usize) {
     assert!(rt; changed < word.len());
     let chunk = &mut word[changed];
     assert!(rt; !chunk.is_empty());
     chunk[0] ^= 1;
-    let have = left_of(rt, alloc, g, &word, 1 << (g.n() - 1))?;
+}
+
+// Changes a bit of one of the chunks of some stripe, and loses the last one: what is left is more than makes a codeword, and of none.
+fn check_change(rt: &impl Abort, alloc: Global, g: Geometry, changed: usize) {
+    let mut word = word_of(rt, alloc, g);
+    change(rt, &mut word, changed);
+    assert!(rt; g.n() < 32);
+    let have = left_of(rt, alloc, g, &word, 1 << (g.n() - 1));
     let refused = decode_checked(alloc, g, &have).err();
     expect_same(rt, refused, Some(CheckedFault::Disagree));
-    Ok(())
 }
 
 // A data chunk, and a parity chunk.
 #[test]
-fn changed_chunks_disagree(rt: HostRuntime) -> Result<(), Fail> {
+fn changed_chunks_disagree(rt: HostRuntime) {
     for (k, m) in CODES {
-        let g = Geometry::new(k, m, 3)?;
-        check_change(&rt, rt.alloc(), g, 0)?;
-        check_change(&rt, rt.alloc(), g, k as usize)?;
+        let g = code(&rt, k, m, 3);
+        check_change(&rt, rt.alloc(), g, 0);
+        check_change(&rt, rt.alloc(), g, k as usize);
     }
-    Ok(())
 }

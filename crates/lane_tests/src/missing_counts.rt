@@ -1,10 +1,10 @@
 //! Pieces without some chunks.
+use crate::encoding::code;
 use crate::expect_same;
 use clay_grid::Geometry;
 use lost_layers::{LostRun, MissingFault, missing_count, missing_pieces};
-use std::alloc::{AllocError, Global};
+use std::alloc::Global;
 use std::process::Abort;
-use std::test::Fail;
 
 /// k, m, the missing chunks by their bits, the lost one, from, to; how many subchunks are read, which is the least that any choice of
 /// unknown nodes takes (checks/lost_layers)
@@ -19,26 +19,24 @@ const COUNTS: [[u32; 7]; 7] = [
 ];
 
 /// Marks for so many chunks, of which those with a bit are missing.
-pub fn present(alloc: Global, count: u32, missing: u32) -> Result<Vec<bool>, AllocError> {
-    let mut marks = Vec::with_capacity(alloc, count as usize)?;
+pub fn present(rt: &impl Abort, alloc: Global, count: u32, missing: u32) -> Vec<bool> {
+    let mut marks = Vec::new(alloc);
     for bit in 0..count.min(32) {
-        marks.push(missing >> bit & 1 == 0)?;
+        marks.push(missing >> bit & 1 == 0).expect(rt, "room");
     }
-    Ok(marks)
+    marks
 }
 
 #[test]
-fn counts(rt: HostRuntime) -> Result<(), Fail> {
+fn counts(rt: HostRuntime) {
     for [k, m, missing, lost, from, to, count] in COUNTS {
-        let g = Geometry::new(k, m, 1)?;
-        let marks = present(rt.alloc(), g.n(), missing)?;
+        let g = code(&rt, k, m, 1);
+        let marks = present(&rt, rt.alloc(), g.n(), missing);
         let run = LostRun { lost, from, to };
-        let pieces = missing_pieces(rt.alloc(), g, run, &marks)?;
+        expect_same(&rt, missing_count(rt.alloc(), g, run, &marks), Ok(count));
+        let pieces = missing_pieces(rt.alloc(), g, run, &marks).expect(&rt, "pieces");
         expect_same(&rt, pieces.len(), count as usize);
-        let read = missing_count(rt.alloc(), g, run, &marks)?;
-        expect_same(&rt, read, count);
     }
-    Ok(())
 }
 
 // Lists the pieces of the first layers of a code with two parity chunks, which is refused unless no cause is given.
@@ -57,32 +55,17 @@ fn expect_end(
 }
 
 #[test]
-fn refusals(rt: HostRuntime) -> Result<(), Fail> {
-    let (alloc, g) = (rt.alloc(), Geometry::new(2, 2, 1)?);
+fn refusals(rt: HostRuntime) {
+    let (alloc, g) = (rt.alloc(), code(&rt, 2, 2, 1));
     let all = [true; 5];
     let without_first = [false, true, true, true];
     let (two, one) = ([false, false, true, true], [false, false, false, true]);
-    expect_end(
-        &rt,
-        alloc,
-        g,
-        4,
-        1,
-        &all[..4],
-        Some(MissingFault::NoSuchChunk),
-    );
-    expect_end(
-        &rt,
-        alloc,
-        g,
-        3,
-        5,
-        &all[..4],
-        Some(MissingFault::NoSuchLayers),
-    );
+    let chunk = Some(MissingFault::NoSuchChunk);
+    let layers = Some(MissingFault::NoSuchLayers);
+    expect_end(&rt, alloc, g, 4, 1, &all[..4], chunk);
+    expect_end(&rt, alloc, g, 3, 5, &all[..4], layers);
     expect_end(&rt, alloc, g, 3, 1, &all, Some(MissingFault::MarkCount));
     expect_end(&rt, alloc, g, 3, 1, &one, Some(MissingFault::TooFew));
     expect_end(&rt, alloc, g, 3, 1, &without_first, None);
     expect_end(&rt, alloc, g, 3, 0, &two, Some(MissingFault::TooFew));
-    Ok(())
 }

@@ -1,5 +1,5 @@
 //! Runs that are read while chunks are missing, beside the codewords of the fast coder.
-use crate::encoding::word_of;
+use crate::encoding::{code, filled, word_of};
 use crate::lost_reads::{bytes_of, layers};
 use crate::missing_counts::present;
 use crate::{expect_bytes, expect_same};
@@ -8,7 +8,6 @@ use lost_layers::{LostRun, MissingFault, missing_pieces};
 use lost_read::{MissingReadFault, read_missing};
 use std::alloc::Global;
 use std::process::Abort;
-use std::test::Fail;
 
 /// k, m, the bytes of a subchunk, the missing chunks by their bits, the lost one, from, to
 const READS: [[u32; 7]; 9] = [
@@ -23,92 +22,70 @@ const READS: [[u32; 7]; 9] = [
     [5, 4, 33, 0b0_1011_0000, 7, 13, 17],
 ];
 
-// Reads a run over bytes that were there before.
-fn check_run(
+// Reads a run of a codeword over bytes that were there before.
+fn check_read(
     rt: &impl Abort,
     alloc: Global,
     g: Geometry,
-    missing: u32,
+    word: &[Vec<u8>],
+    marks: &[bool],
     run: LostRun,
-) -> Result<(), Fail> {
-    let word = word_of(alloc, g)?;
-    let marks = present(alloc, g.n(), missing)?;
-    let pieces = missing_pieces(alloc, g, run, &marks)?;
-    let bytes = bytes_of(rt, alloc, g, &word, &pieces)?;
-    let wanted = layers(rt, g, &word, run.lost, run.from, run.to);
-    let mut out = vec![in alloc; 0xa5u8; wanted.len()]?;
-    read_missing(alloc, g, run, &marks, &bytes, &mut out)?;
+) {
+    let wanted = layers(rt, g, word, run);
+    let pieces = missing_pieces(alloc, g, run, marks).expect(rt, "pieces");
+    let bytes = bytes_of(rt, alloc, g, word, &pieces);
+    let mut out = filled(rt, alloc, 0xa5, wanted.len());
+    read_missing(alloc, g, run, marks, &bytes, &mut out).expect(rt, "read_missing");
     expect_bytes(rt, &out, wanted);
-    Ok(())
 }
 
 #[test]
-fn runs_are_read(rt: HostRuntime) -> Result<(), Fail> {
+fn runs_are_read(rt: HostRuntime) {
+    let alloc = rt.alloc();
     for [k, m, w, missing, lost, from, to] in READS {
-        let g = Geometry::new(k, m, w)?;
-        check_run(&rt, rt.alloc(), g, missing, LostRun { lost, from, to })?;
+        let g = code(&rt, k, m, w);
+        let word = word_of(&rt, alloc, g);
+        let marks = present(&rt, alloc, g.n(), missing);
+        check_read(&rt, alloc, g, &word, &marks, LostRun { lost, from, to });
     }
-    Ok(())
 }
 
-// Reads the layers below `to` of chunk 3 of a code with two parity chunks, of which the first chunk is missing. It is refused unless no cause
-// is given. Layer 0 takes five pieces of two bytes.
+// Reads the layers below `to` of chunk 3 of a code with two parity chunks, of which the first chunk is missing, into so many bytes. It is
+// refused unless no cause is given. Layer 0 takes five pieces of two bytes.
 fn expect_end(
     rt: &impl Abort,
     alloc: Global,
     g: Geometry,
     to: u32,
     pieces: &[&[u8]],
-    out: &mut [u8],
+    room: usize,
     why: Option<MissingReadFault>,
 ) {
+    assert!(rt; room <= 3);
     let (lost, from) = (3, 0);
     let present = [false, true, true, true];
     let run = LostRun { lost, from, to };
-    let refused = read_missing(alloc, g, run, &present, pieces, out).err();
+    let refused = read_missing(alloc, g, run, &present, pieces, &mut [0; 3][..room]).err();
     expect_same(rt, refused, why);
 }
 
+const FIVE: [&[u8]; 5] = [b"ab"; 5];
+
+const SHORT: [&[u8]; 5] = [b"ab", b"c", b"ab", b"ab", b"ab"];
+
 #[test]
-fn refusals(rt: HostRuntime) -> Result<(), Fail> {
-    let (alloc, g) = (rt.alloc(), Geometry::new(2, 2, 2)?);
-    let good = [b"ab".as_slice(); 5];
-    let mut short = good;
-    short[1] = b"c".as_slice();
-    let layers = MissingReadFault::Run(MissingFault::NoSuchLayers);
-    let count = MissingReadFault::PieceCount;
-    let (mut two, mut room) = ([0; 2], [0; 3]);
-    expect_end(&rt, alloc, g, 5, &[], &mut [], Some(layers));
-    expect_end(&rt, alloc, g, 1, &good[1..], &mut two, Some(count));
-    expect_end(
-        &rt,
-        alloc,
-        g,
-        1,
-        &short,
-        &mut two,
-        Some(MissingReadFault::PieceLength),
-    );
-    expect_end(
-        &rt,
-        alloc,
-        g,
-        1,
-        &good,
-        &mut room,
-        Some(MissingReadFault::Room),
-    );
-    expect_end(&rt, alloc, g, 1, &good, &mut two, None);
-    expect_end(&rt, alloc, g, 0, &good, &mut [], Some(count));
-    expect_end(
-        &rt,
-        alloc,
-        g,
-        0,
-        &[],
-        &mut room[..1],
-        Some(MissingReadFault::Room),
-    );
-    expect_end(&rt, alloc, g, 0, &[], &mut [], None);
-    Ok(())
+fn refusals(rt: HostRuntime) {
+    let (alloc, g) = (rt.alloc(), code(&rt, 2, 2, 2));
+    let layers = Some(MissingReadFault::Run(MissingFault::NoSuchLayers));
+    let count = Some(MissingReadFault::PieceCount);
+    let length = Some(MissingReadFault::PieceLength);
+    let room = Some(MissingReadFault::Room);
+    expect_end(&rt, alloc, g, 5, &[], 0, layers);
+    expect_end(&rt, alloc, g, 1, &FIVE[1..], 2, count);
+    expect_end(&rt, alloc, g, 1, &SHORT, 2, length);
+    expect_end(&rt, alloc, g, 1, &FIVE, 3, room);
+    expect_end(&rt, alloc, g, 1, &FIVE, 2, None);
+    expect_end(&rt, alloc, g, 0, &FIVE, 0, count);
+    expect_end(&rt, alloc, g, 0, &[], 1, room);
+    expect_end(&rt, alloc, g, 0, &[], 0, None);
 }
