@@ -1,16 +1,15 @@
 //! Codewords that are given back from what is left of them.
-ghost use Rattle.std.specs.Prelude.{◌≡◌, ◌<◌, length, IfOk, IfSome};
+ghost use Rattle.std.specs.Prelude.{◌≡◌, ◌<◌, length, IfSome};
 ghost use Rattle.clay_grid.specs.Shape.{chunk_count, chunk_length};
 ghost use Rattle.clay_model.specs.Left.{AreLong};
 
-use crate::{expect_bytes, expect_same};
+use crate::{copied, expect_bytes, expect_same};
 use clay_decode::{decode, decode_checked};
 use clay_encode::encode;
 use clay_grid::Geometry;
 use clay_model::{CheckedFault, DecodeFault};
-use std::alloc::{AllocError, Global};
+use std::alloc::Global;
 use std::process::Abort;
-use std::test::Fail;
 
 type Word = [[u8; 4]; 4];
 
@@ -37,21 +36,21 @@ const ANOTHER: Word = [
     [0x53, 0, 0, 1],
 ];
 
-fn chunks_of(alloc: Global, word: &Word) -> Result<Vec<Vec<u8>>, AllocError> {
+fn chunks_of(rt: &impl Abort, alloc: Global, word: &Word) -> Vec<Vec<u8>> {
     let mut chunks = Vec::new(alloc);
     for bytes in word.iter() {
-        chunks.push(Vec::from_slice(alloc, bytes)?)?;
+        chunks.push(copied(rt, alloc, bytes)).expect(rt, "room");
     }
-    Ok(chunks)
+    chunks
 }
 
-fn part_of(alloc: Global, chunk: &[u8], missing: bool) -> Result<Option<Vec<u8>>, AllocError>
-    ensures { IfOk result (λ o. IfSome o (λ v. length v.items ≡ length chunk.now)) }
+fn part_of(rt: &impl Abort, alloc: Global, chunk: &[u8], missing: bool) -> Option<Vec<u8>>
+    ensures { IfSome result (λ v. length v.items ≡ length chunk.now) }
 {
     if missing {
-        return Ok(None);
+        return None;
     }
-    Ok(Some(Vec::from_slice(alloc, chunk)?))
+    Some(copied(rt, alloc, chunk))
 }
 
 // What is left of chunks where those of the bits of `missing` are missing.
@@ -61,18 +60,19 @@ fn left_of(
     g: Geometry,
     chunks: &[Vec<u8>],
     missing: u32,
-) -> Result<Vec<Option<Vec<u8>>>, AllocError>
-    ensures count { IfOk result (λ have. length have.items ≡ chunk_count g) }
-    ensures lengths { IfOk result (λ have. AreLong (chunk_length g) have.items) }
+) -> Vec<Option<Vec<u8>>>
+    ensures count { length result.items ≡ chunk_count g }
+    ensures lengths { AreLong (chunk_length g) result.items }
 {
     assert!(rt; chunks.len() == g.n() as usize);
     let mut have = Vec::new(alloc);
     for c in 0..g.n() {
         let chunk = &chunks[c as usize];
         assert!(rt; chunk.len() == g.chunk_len() as usize);
-        have.push(part_of(alloc, chunk, missing >> c & 1 == 1)?)?;
+        let part = part_of(rt, alloc, chunk, missing >> c & 1 == 1);
+        have.push(part).expect(rt, "room");
     }
-    Ok(have)
+    have
 }
 
 fn expect_chunks(rt: &impl Abort, chunks: &[Vec<u8>], expected: &[Vec<u8>]) {
@@ -100,102 +100,93 @@ fn check_decoded(
     g: Geometry,
     have: &[Option<Vec<u8>>],
     word: &[Vec<u8>],
-) -> Result<(), Fail>
+)
     requires count { length have.now ≡ chunk_count g }
     requires lengths { AreLong (chunk_length g) have.now }
 {
-    expect_chunks(rt, &decode(alloc, g, have)?, word);
-    expect_chunks(rt, &decode_checked(alloc, g, have)?, word);
-    Ok(())
+    let chunks = decode(alloc, g, have).expect(rt, "decode");
+    expect_chunks(rt, &chunks, word);
+    let chunks = decode_checked(alloc, g, have).expect(rt, "decode_checked");
+    expect_chunks(rt, &chunks, word);
 }
 
 // Decodes what is left after these losses.
-fn check_loss(
-    rt: &impl Abort,
-    alloc: Global,
-    g: Geometry,
-    word: &[Vec<u8>],
-    missing: u32,
-) -> Result<(), Fail> {
-    let have = left_of(rt, alloc, g, word, missing)?;
+fn check_loss(rt: &impl Abort, alloc: Global, g: Geometry, word: &[Vec<u8>], missing: u32) {
+    let have = left_of(rt, alloc, g, word, missing);
     if missing.count_ones() > g.m() {
         check_refused(rt, alloc, g, &have);
-        return Ok(());
+    } else {
+        check_decoded(rt, alloc, g, &have, word);
     }
-    check_decoded(rt, alloc, g, &have, word)
 }
 
 // Decodes what is left after each choice of losses.
-fn check_losses(rt: &impl Abort, alloc: Global, g: Geometry, word: &[Vec<u8>]) -> Result<(), Fail> {
+fn check_losses(rt: &impl Abort, alloc: Global, g: Geometry, word: &[Vec<u8>]) {
     assert!(rt; g.n() < 8);
     for missing in 0..1u32 << g.n() {
-        check_loss(rt, alloc, g, word, missing)?;
+        check_loss(rt, alloc, g, word, missing);
     }
-    Ok(())
-}
-
-fn check_word(rt: &impl Abort, alloc: Global, word: &Word) -> Result<(), Fail> {
-    let g = Geometry::new(2, 2, 1)?;
-    check_losses(rt, alloc, g, &chunks_of(alloc, word)?)
 }
 
 #[test]
-fn codewords_are_decoded(rt: HostRuntime) -> Result<(), Fail> {
-    check_word(&rt, rt.alloc(), &UNPAIRED)?;
-    check_word(&rt, rt.alloc(), &PAIRED)
+fn codewords_are_decoded(rt: HostRuntime) {
+    let g = Geometry::new(2, 2, 1).expect(&rt, "a code");
+    for word in [&UNPAIRED, &PAIRED] {
+        let chunks = chunks_of(&rt, rt.alloc(), word);
+        check_losses(&rt, rt.alloc(), g, &chunks);
+    }
 }
 
 /// Bytes that count up to a number, over and over.
-pub(crate) fn ramp(alloc: Global, len: u32, numbers: u32) -> Result<Vec<u8>, AllocError>
+pub(crate) fn ramp(rt: &impl Abort, alloc: Global, len: u32, numbers: u8) -> Vec<u8>
     requires { 0 < numbers }
 {
-    let mut bytes = Vec::with_capacity(alloc, len as usize)?;
+    let mut bytes = Vec::with_capacity(alloc, len as usize).expect(rt, "room");
     for i in 0..len {
-        bytes.push((i % numbers) as u8)?;
+        bytes
+            .push((i % u32::from(numbers)) as u8)
+            .expect(rt, "room");
     }
-    Ok(bytes)
+    bytes
 }
 
-// The chunks of a stripe.
-fn encoded(rt: &impl Abort, alloc: Global, g: Geometry) -> Result<Vec<Vec<u8>>, Fail> {
-    let stripe = ramp(alloc, g.stripe_len(), 251)?;
+// Decodes the chunks of a stripe.
+fn check_code(rt: &impl Abort, alloc: Global, g: Geometry) {
+    let stripe = ramp(rt, alloc, g.stripe_len(), 251);
     assert!(rt; stripe.len() == g.stripe_len() as usize);
-    Ok(encode(alloc, g, &stripe)?)
-}
-
-fn check_code(rt: &impl Abort, alloc: Global, g: Geometry) -> Result<(), Fail> {
-    check_losses(rt, alloc, g, &encoded(rt, alloc, g)?)
+    let chunks = encode(alloc, g, &stripe).expect(rt, "encode");
+    check_losses(rt, alloc, g, &chunks);
 }
 
 #[test]
-fn stripes_are_decoded(rt: HostRuntime) -> Result<(), Fail> {
-    check_code(&rt, rt.alloc(), Geometry::new(3, 2, 2)?)?;
-    check_code(&rt, rt.alloc(), Geometry::new(4, 3, 2)?)
+fn stripes_are_decoded(rt: HostRuntime) {
+    for (k, m) in [(3, 2), (4, 3)] {
+        let g = Geometry::new(k, m, 2).expect(&rt, "a code");
+        check_code(&rt, rt.alloc(), g);
+    }
 }
 
-// Whether what is left after these losses is of a codeword.
-fn agrees(
+// What is left after these losses is of a codeword, or of none.
+fn expect_agreement(
     rt: &impl Abort,
     alloc: Global,
     g: Geometry,
     chunks: &[Vec<u8>],
     missing: u32,
-) -> Result<bool, Fail> {
-    let have = left_of(rt, alloc, g, chunks, missing)?;
-    match decode_checked(alloc, g, &have) {
-        Ok(_) => Ok(true),
-        Err(CheckedFault::Disagree) => Ok(false),
-        Err(fault) => Err(fault)?,
-    }
+    why: Option<CheckedFault>,
+) {
+    let have = left_of(rt, alloc, g, chunks, missing);
+    expect_same(rt, decode_checked(alloc, g, &have).err(), why);
 }
 
 #[test]
-fn chunks_of_no_codeword_disagree(rt: HostRuntime) -> Result<(), Fail> {
-    let g = Geometry::new(2, 2, 1)?;
-    let chunks = chunks_of(rt.alloc(), &ANOTHER)?;
-    expect_same(&rt, agrees(&rt, rt.alloc(), g, &chunks, 0b0000)?, false);
-    expect_same(&rt, agrees(&rt, rt.alloc(), g, &chunks, 0b0001)?, false);
-    expect_same(&rt, agrees(&rt, rt.alloc(), g, &chunks, 0b0011)?, true);
-    expect_same(&rt, agrees(&rt, rt.alloc(), g, &chunks, 0b1000)?, true);
-    Ok(())
+fn chunks_of_no_codeword_disagree(rt: HostRuntime) {
+    let g = Geometry::new(2, 2, 1).expect(&rt, "a code");
+    let alloc = rt.alloc();
+    let chunks = chunks_of(&rt, alloc, &ANOTHER);
+    let disagree = Some(CheckedFault::Disagree);
+    expect_agreement(&rt, alloc, g, &chunks, 0b0000, disagree);
+    expect_agreement(&rt, alloc, g, &chunks, 0b0001, disagree);
+    expect_agreement(&rt, alloc, g, &chunks, 0b0011, None);
+    expect_agreement(&rt, alloc, g, &chunks, 0b1000, None);
 }

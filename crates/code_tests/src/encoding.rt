@@ -1,12 +1,12 @@
 //! Stripes that are encoded, and bytes that are cut into stripes.
 ghost use Rattle.std.specs.Prelude.{◌<◌};
 
+use crate::decoding::ramp;
 use crate::{expect_bytes, expect_same};
 use clay_encode::{encode, join, split, stripes_are_joined};
 use clay_grid::Geometry;
 use std::alloc::Global;
 use std::process::Abort;
-use std::test::Fail;
 
 fn expect_lengths(rt: &impl Abort, chunks: &[Vec<u8>], len: usize) {
     for chunk in chunks {
@@ -15,21 +15,13 @@ fn expect_lengths(rt: &impl Abort, chunks: &[Vec<u8>], len: usize) {
 }
 
 // The chunks are as long as they are to be, and joined they are the stripe with the parity behind it.
-fn check_parity(
-    rt: &impl Abort,
-    alloc: Global,
-    g: Geometry,
-    stripe: &[u8],
-    parity: &[u8],
-) -> Result<(), Fail> {
+fn check_parity(rt: &impl Abort, alloc: Global, g: Geometry, stripe: &[u8], parity: &[u8]) {
     assert!(rt; stripe.len() == g.stripe_len() as usize);
-    let chunks = encode(alloc, g, stripe)?;
+    let chunks = encode(alloc, g, stripe).expect(rt, "encode");
     expect_lengths(rt, &chunks, g.chunk_len() as usize);
-    let bytes = chunks.concat(alloc)?;
-    assert!(rt; bytes.len() >= stripe.len());
-    expect_bytes(rt, &bytes[..stripe.len()], stripe);
-    expect_bytes(rt, &bytes[stripe.len()..], parity);
-    Ok(())
+    let bytes = chunks.concat(alloc).expect(rt, "all bytes");
+    let wanted = [stripe, parity].concat(alloc).expect(rt, "all bytes");
+    expect_bytes(rt, &bytes, &wanted);
 }
 
 /// of the stripe 0, 1, .., 107
@@ -40,44 +32,43 @@ const RAMP_PARITY: &[u8] = b"\
 
 // A byte without a partner, one with a partner, one that is paired with the virtual node, and all bytes with two nodes virtual.
 #[test]
-fn stripes_are_encoded(rt: HostRuntime) -> Result<(), Fail> {
+fn stripes_are_encoded(rt: HostRuntime) {
     let alloc = rt.alloc();
-    let g = Geometry::new(2, 2, 1)?;
+    let g = Geometry::new(2, 2, 1).expect(&rt, "a code");
     let unpaired = b"\x01\0\0\0\0\0\0\0";
-    check_parity(&rt, alloc, g, unpaired, b"\x03\xa6\0\0\x53\0\0\0")?;
+    check_parity(&rt, alloc, g, unpaired, b"\x03\xa6\0\0\x53\0\0\0");
     let paired = b"\0\0\0\0\x01\0\0\0";
-    check_parity(&rt, alloc, g, paired, b"\x02\xf5\x06\x51\xf4\0\xa6\0")?;
+    check_parity(&rt, alloc, g, paired, b"\x02\xf5\x06\x51\xf4\0\xa6\0");
+    let g = Geometry::new(3, 2, 1).expect(&rt, "a code");
     let mut stripe = [0; 24];
     stripe[18] = 0x01;
     let parity = b"\x0c\x55\x07\xf7\0\0\0\0\xa4\0\xf5\0\0\0\0\0";
-    check_parity(&rt, alloc, Geometry::new(3, 2, 1)?, &stripe, parity)?;
-    let g = Geometry::new(4, 3, 1)?;
-    let ramp: Vec<u8> = (0..108u8).collect(alloc)?;
-    check_parity(&rt, alloc, g, &ramp, RAMP_PARITY)
+    check_parity(&rt, alloc, g, &stripe, parity);
+    let g = Geometry::new(4, 3, 1).expect(&rt, "a code");
+    let stripe = ramp(&rt, alloc, 108, 251);
+    check_parity(&rt, alloc, g, &stripe, RAMP_PARITY);
 }
 
 // Cuts the bytes from 1 up to this many into so many stripes, of which the last one is filled up, and joins them.
-fn check_cut(rt: &impl Abort, alloc: Global, len: u8, count: usize) -> Result<(), Fail>
+fn check_cut(rt: &impl Abort, alloc: Global, g: Geometry, len: u8, count: usize)
     requires { len < 255 }
 {
-    let g = Geometry::new(2, 2, 1)?;
-    let bytes: Vec<u8> = (1..len + 1).collect(alloc)?;
+    let bytes: Vec<u8> = (1..len + 1).collect(alloc).expect(rt, "bytes");
     stripes_are_joined();
-    let stripes = split(alloc, g, &bytes)?;
+    let stripes = split(alloc, g, &bytes).expect(rt, "split");
     expect_same(rt, stripes.len(), count);
     expect_lengths(rt, &stripes, 8);
-    let again = join(alloc, g, &stripes, bytes.len())?;
+    let again = join(alloc, g, &stripes, bytes.len()).expect(rt, "join");
     expect_bytes(rt, &again, &bytes);
-    Ok(())
 }
 
 #[test]
-fn bytes_are_cut_and_joined(rt: HostRuntime) -> Result<(), Fail> {
+fn bytes_are_cut_and_joined(rt: HostRuntime) {
+    let g = Geometry::new(2, 2, 1).expect(&rt, "a code");
     for (len, count) in [(0, 0), (1, 1), (7, 1), (8, 1), (9, 2), (17, 3)] {
-        check_cut(&rt, rt.alloc(), len, count)?;
+        check_cut(&rt, rt.alloc(), g, len, count);
     }
-    let stripes = split(rt.alloc(), Geometry::new(2, 2, 1)?, &[5; 9])?;
+    let stripes = split(rt.alloc(), g, &[5; 9]).expect(&rt, "split");
     assert!(rt; stripes.len() == 2);
     expect_bytes(&rt, &stripes[1], &[5, 0, 0, 0, 0, 0, 0, 0]);
-    Ok(())
 }

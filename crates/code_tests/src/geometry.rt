@@ -2,7 +2,6 @@
 use crate::{expect_numbers, expect_same};
 use clay_grid::{BadGeometry, Geometry};
 use std::process::Abort;
-use std::test::Fail;
 
 /// k, m; q, nu, t, alpha, the subchunks of each helper in a repair
 const SHAPES: [[u32; 7]; 7] = [
@@ -19,19 +18,18 @@ const SHAPES: [[u32; 7]; 7] = [
 const PAIRS: [[u32; 4]; 4] = [[0, 2, 1, 0], [0, 3, 1, 1], [2, 1, 3, 0], [2, 3, 3, 2]];
 
 #[test]
-fn numbers_of_shapes(rt: HostRuntime) -> Result<(), Fail> {
+fn numbers_of_shapes(rt: HostRuntime) {
     for [k, m, q, nu, t, alpha, helper] in SHAPES {
-        let g = Geometry::new(k, m, 3)?;
+        let g = Geometry::new(k, m, 3).expect(&rt, "a code");
         expect_numbers(&rt, &[g.k(), g.m(), g.w(), g.q()], &[k, m, 3, q]);
         expect_numbers(
             &rt,
             &[g.nu(), g.t(), g.alpha(), g.n()],
             &[nu, t, alpha, k + m],
         );
-        let layers = g.repair_layers(rt.alloc(), 0)?;
+        let layers = g.repair_layers(rt.alloc(), 0).expect(&rt, "layers");
         expect_same(&rt, layers.len(), helper as usize);
     }
-    Ok(())
 }
 
 fn expect_refusal(rt: &impl Abort, k: u32, m: u32, w: u32, why: Option<BadGeometry>) {
@@ -50,8 +48,8 @@ fn refusals(rt: HostRuntime) {
 }
 
 #[test]
-fn partners(rt: HostRuntime) -> Result<(), Fail> {
-    let g = Geometry::new(2, 2, 1)?;
+fn partners(rt: HostRuntime) {
+    let g = Geometry::new(2, 2, 1).expect(&rt, "a code");
     for [node, layer, other, other_layer] in PAIRS {
         let (x, y) = g.place(node);
         let partner = g.partner(x, y, layer);
@@ -62,16 +60,15 @@ fn partners(rt: HostRuntime) -> Result<(), Fail> {
             &[other_x, other_y, other_layer],
         );
     }
-    Ok(())
 }
 
 #[test]
-fn lengths_and_layers_of_a_small_grid(rt: HostRuntime) -> Result<(), Fail> {
-    let g = Geometry::new(2, 2, 1)?;
+fn lengths_and_layers_of_a_small_grid(rt: HostRuntime) {
+    let g = Geometry::new(2, 2, 1).expect(&rt, "a code");
     expect_numbers(&rt, &[g.chunk_len(), g.stripe_len()], &[4, 8]);
-    let by_score = g.layers_by_score(rt.alloc(), &[true, false, true, false])?;
+    let erased = [true, false, true, false];
+    let by_score = g.layers_by_score(rt.alloc(), &erased).expect(&rt, "layers");
     expect_numbers(&rt, &by_score, &[3, 1, 2, 0]);
-    let layers = g.repair_layers(rt.alloc(), 3)?;
+    let layers = g.repair_layers(rt.alloc(), 3).expect(&rt, "layers");
     expect_numbers(&rt, &layers, &[1, 3]);
-    Ok(())
 }

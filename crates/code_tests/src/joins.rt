@@ -2,16 +2,14 @@
 ghost use Rattle.std.specs.Prelude.{◌≡◌, ◌≤◌, length};
 
 use crate::shares::{FILE, cut_shares};
-use crate::{expect_bytes, expect_same};
+use crate::{expect_bytes, expect_same, new_crc};
 use clay_aloof::AloofGeometry;
 use clay_bytes::MemSink;
-use crc64::Crc64;
 use file_bytes::{MemFile, SinkAt};
 use share_files::{JoinFault, join};
 use share_format::ShareHeader;
-use std::alloc::{AllocError, Global};
+use std::alloc::Global;
 use std::process::Abort;
-use std::test::Fail;
 
 // What goes wrong with the shares, or with what is joined from them.
 #[derive(Clone, Copy)]
@@ -58,36 +56,35 @@ fn harm_shares(alloc: Global, shares: &mut [MemFile], harm: Harm)
 }
 
 // A sink with room for the file.
-fn new_sink(alloc: Global, harm: Harm) -> Result<MemSink, AllocError> {
+fn new_sink(rt: &impl Abort, alloc: Global, harm: Harm) -> MemSink {
     let mut failing = Vec::new(alloc);
     if let Harm::FailedWrite(write) = harm {
-        failing.push(write)?;
+        failing.push(write).expect(rt, "room");
     }
-    Ok(MemSink::new(Vec::with_capacity(alloc, 64)?, failing))
+    MemSink::new(Vec::with_capacity(alloc, 64).expect(rt, "room"), failing)
 }
 
 // Joins harmed shares: the file comes back, unless another end is wanted, and each share's block is missed first at the stripe in `missed`.
 fn expect_join(
     rt: &impl Abort,
     alloc: Global,
-    crc: &Crc64,
     harm: Harm,
     wanted: Result<(), JoinFault>,
     missed: [Option<u64>; 5],
-) -> Result<(), Fail> {
-    let geometry = AloofGeometry::new(2, 3, 3, 1)?;
+) {
+    let crc = new_crc(rt, alloc);
+    let geometry = AloofGeometry::new(2, 3, 3, 1).expect(rt, "a code");
     let header = ShareHeader::new(geometry, 0, FILE.len() as u64, crc.checksum(FILE));
-    let mut shares = cut_shares(alloc, crc, geometry, FILE, failing_call(harm))?;
+    let mut shares = cut_shares(rt, alloc, &crc, geometry, FILE, failing_call(harm));
     harm_shares(alloc, &mut shares, harm);
-    let mut sink = new_sink(alloc, harm)?;
+    let mut sink = new_sink(rt, alloc, harm);
     let mut found = [None; 5];
-    let joined = join(alloc, crc, &header, &mut shares, &mut sink, &mut found);
+    let joined = join(alloc, &crc, &header, &mut shares, &mut sink, &mut found);
     expect_same(rt, joined, wanted);
     expect_same(rt, found, missed);
     if wanted.is_ok() {
         expect_bytes(rt, sink.kept(), FILE);
     }
-    Ok(())
 }
 
 /// Where shares miss a block first of which the first so many are missing.
@@ -100,46 +97,34 @@ const FIRST_MISSED: [[Option<u64>; 5]; 5] = [
 ];
 
 #[test]
-fn any_two_of_five_are_enough(rt: HostRuntime) -> Result<(), Fail> {
+fn any_two_of_five_are_enough(rt: HostRuntime) {
     let alloc = rt.alloc();
-    let crc = Crc64::new(alloc)?;
     for count in 0..4usize {
         let harm = Harm::Missing(count);
-        expect_join(&rt, alloc, &crc, harm, Ok(()), FIRST_MISSED[count])?;
+        expect_join(&rt, alloc, harm, Ok(()), FIRST_MISSED[count]);
     }
     let too_few = Err(JoinFault::TooFew(0));
-    expect_join(&rt, alloc, &crc, Harm::Missing(4), too_few, FIRST_MISSED[4])
+    expect_join(&rt, alloc, Harm::Missing(4), too_few, FIRST_MISSED[4]);
 }
 
 // The second block begins at byte 136. Rot of a parity share isn't read where the data shares are good.
 #[test]
-fn rot_is_noted(rt: HostRuntime) -> Result<(), Fail> {
+fn rot_is_noted(rt: HostRuntime) {
     let alloc = rt.alloc();
-    let crc = Crc64::new(alloc)?;
     for at in [64, 135, 136, 207u64] {
         let missed = [Some(at / 136), None, None, None, None];
-        expect_join(&rt, alloc, &crc, Harm::Rot(0, at), Ok(()), missed)?;
-        expect_join(&rt, alloc, &crc, Harm::Rot(4, at), Ok(()), [None; 5])?;
+        expect_join(&rt, alloc, Harm::Rot(0, at), Ok(()), missed);
+        expect_join(&rt, alloc, Harm::Rot(4, at), Ok(()), [None; 5]);
     }
-    Ok(())
 }
 
 #[test]
-fn each_read_and_each_write_fails_in_turn(rt: HostRuntime) -> Result<(), Fail> {
+fn each_read_and_each_write_fails_in_turn(rt: HostRuntime) {
     let alloc = rt.alloc();
-    let crc = Crc64::new(alloc)?;
+    let unwritten = Err(JoinFault::WriteFault);
     for call in 0..2u64 {
         let missed = [Some(0), None, None, None, Some(call)];
-        expect_join(&rt, alloc, &crc, Harm::FailedRead(call), Ok(()), missed)?;
-        let unwritten = Err(JoinFault::WriteFault);
-        expect_join(
-            &rt,
-            alloc,
-            &crc,
-            Harm::FailedWrite(call),
-            unwritten,
-            [None; 5],
-        )?;
+        expect_join(&rt, alloc, Harm::FailedRead(call), Ok(()), missed);
+        expect_join(&rt, alloc, Harm::FailedWrite(call), unwritten, [None; 5]);
     }
-    Ok(())
 }

@@ -1,6 +1,8 @@
 //! The code's crates compared with values from outside; files cut into shares, joined and mended, with shares lost and calls failing.
 #![tactic(auto)]
 
+ghost use Rattle.std.specs.Prelude.{◌≡◌, length};
+
 #[cfg(test)]
 mod checked_shares;
 #[cfg(test)]
@@ -39,6 +41,10 @@ mod told_cuts;
 mod worked_blocks;
 
 #[cfg(test)]
+use crc64::Crc64;
+#[cfg(test)]
+use std::alloc::Global;
+#[cfg(test)]
 use std::fmt::Debug;
 #[cfg(test)]
 use std::process::Abort;
@@ -57,4 +63,17 @@ fn expect_numbers(rt: &impl Abort, found: &[u32], wanted: &[u32]) {
 #[cfg(test)]
 fn expect_same<T: Copy + Debug + PartialEq>(rt: &impl Abort, found: T, wanted: T) {
     assert_eq!(rt; found, wanted);
+}
+
+/// A copy of some bytes.
+#[cfg(test)]
+fn copied(rt: &impl Abort, alloc: Global, bytes: &[u8]) -> Vec<u8>
+    ensures { length result.items ≡ length bytes.now }
+{
+    Vec::from_slice(alloc, bytes).expect(rt, "a copy")
+}
+
+#[cfg(test)]
+fn new_crc(rt: &impl Abort, alloc: Global) -> Crc64 {
+    Crc64::new(alloc).expect(rt, "tables")
 }

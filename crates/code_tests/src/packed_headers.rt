@@ -1,9 +1,8 @@
 //! A header's bytes, as another program packs them, and what is refused.
-use crate::{expect_bytes, expect_same};
+use crate::{expect_bytes, expect_same, new_crc};
 use clay_aloof::AloofGeometry;
 use crc64::Crc64;
 use share_format::{BadHeader, ShareHeader, read_header};
-use std::test::Fail;
 
 /// Share 3 of 8 + 4 with 11 helpers and subchunks of 4,096 bytes, of a file of 10,000,000 bytes whose checksum is 0x0123456789abcdef.
 const PACKED: [u8; 64] = [
@@ -23,22 +22,20 @@ fn refused(crc: &Crc64, place: usize, byte: u8) -> Option<BadHeader> {
 }
 
 #[test]
-fn writes_and_reads_what_is_packed(rt: HostRuntime) -> Result<(), Fail> {
-    let geometry = AloofGeometry::new(8, 4, 11, 4096)?;
+fn writes_and_reads_what_is_packed(rt: HostRuntime) {
+    let geometry = AloofGeometry::new(8, 4, 11, 4096).expect(&rt, "a code");
     let header = ShareHeader::new(geometry, 3, 10_000_000, 0x0123_4567_89ab_cdef);
-    let crc = Crc64::new(rt.alloc())?;
-    let bytes = header.bytes(rt.alloc(), &crc)?;
+    let crc = new_crc(&rt, rt.alloc());
+    let bytes = header.bytes(rt.alloc(), &crc).expect(&rt, "bytes");
     expect_bytes(&rt, &bytes, &PACKED);
     expect_same(&rt, read_header(&crc, &PACKED), Ok(header));
-    Ok(())
 }
 
 #[test]
-fn names_the_cause(rt: HostRuntime) -> Result<(), Fail> {
-    let crc = Crc64::new(rt.alloc())?;
+fn names_the_cause(rt: HostRuntime) {
+    let crc = new_crc(&rt, rt.alloc());
     expect_same(&rt, refused(&crc, 64, 0), None);
     expect_same(&rt, refused(&crc, 0, 0), Some(BadHeader::Magic));
     expect_same(&rt, refused(&crc, 8, 2), Some(BadHeader::Version));
     expect_same(&rt, refused(&crc, 12, 9), Some(BadHeader::Checksum));
-    Ok(())
 }

@@ -4,65 +4,65 @@ ghost use Rattle.std.specs.Prelude.{◌+◌, ◌<◌, ◌^◌, length};
 use crate::{expect_bytes, expect_same};
 use clay_bytes::WriteFault;
 use file_bytes::{MemFile, ReadFault, StdFile, read_exact_at, write_all_at};
-use std::alloc::{AllocError, Global};
+use std::alloc::Global;
 use std::io;
 use std::os::unix::fs::FileExt;
+use std::process::Abort;
 
 // A file of ten bytes, of which a call moves three.
-fn ten_bytes(alloc: Global, failing: Option<u64>) -> Result<MemFile, AllocError> {
-    let mut bytes = Vec::with_capacity(alloc, 16)?;
-    bytes.extend_from_slice(b"ten bytes!")?;
-    Ok(MemFile::new(bytes, 3, failing))
+fn ten_bytes(rt: &impl Abort, alloc: Global, failing: Option<u64>) -> MemFile {
+    let mut bytes = Vec::with_capacity(alloc, 16).expect(rt, "room");
+    bytes.extend_from_slice(b"ten bytes!").expect(rt, "room");
+    MemFile::new(bytes, 3, failing)
 }
 
 #[test]
-fn bytes_come_back_in_pieces(rt: HostRuntime) -> Result<(), AllocError> {
-    let mut file = ten_bytes(rt.alloc(), None)?;
+fn bytes_come_back_in_pieces(rt: HostRuntime) {
+    let mut file = ten_bytes(&rt, rt.alloc(), None);
     let mut got = [0u8; 5];
     expect_same(&rt, write_all_at(&mut file, 8, b"s and on"), Ok(()));
     expect_same(&rt, write_all_at(&mut file, 0, b"two"), Ok(()));
     expect_same(&rt, read_exact_at(&mut file, 6, &mut got), Ok(()));
     expect_bytes(&rt, &got, b"tes a");
     expect_bytes(&rt, file.bytes(), b"two bytes and on");
-    Ok(())
 }
 
 // What reading ten bytes from a position on answers, where a call fails.
-fn read_from(alloc: Global, at: u64, failing: Option<u64>) -> Result<Option<ReadFault>, AllocError>
+fn read_from(rt: &impl Abort, alloc: Global, at: u64, failing: Option<u64>) -> Option<ReadFault>
     requires { at + 10 < 2 ^ 64 }
 {
-    let mut file = ten_bytes(alloc, failing)?;
+    let mut file = ten_bytes(rt, alloc, failing);
     let mut got = [0u8; 10];
-    Ok(read_exact_at(&mut file, at, &mut got).err())
+    read_exact_at(&mut file, at, &mut got).err()
 }
 
 // What writing these bytes answers, where a call fails.
 fn write_to(
+    rt: &impl Abort,
     alloc: Global,
     at: u64,
     bytes: &[u8],
     failing: Option<u64>,
-) -> Result<Option<WriteFault>, AllocError>
+) -> Option<WriteFault>
     requires { at + length bytes.now < 2 ^ 64 }
 {
-    let mut file = ten_bytes(alloc, failing)?;
-    Ok(write_all_at(&mut file, at, bytes).err())
+    let mut file = ten_bytes(rt, alloc, failing);
+    write_all_at(&mut file, at, bytes).err()
 }
 
 #[test]
-fn each_call_fails_in_turn(rt: HostRuntime) -> Result<(), AllocError> {
+fn each_call_fails_in_turn(rt: HostRuntime) {
     let alloc = rt.alloc();
     for call in 0..4u64 {
-        let unread = read_from(alloc, 0, Some(call))?;
+        let unread = read_from(&rt, alloc, 0, Some(call));
         expect_same(&rt, unread, Some(ReadFault::Failed));
-        let unwritten = write_to(alloc, 2, b"ten bytes!", Some(call))?;
+        let unwritten = write_to(&rt, alloc, 2, b"ten bytes!", Some(call));
         expect_same(&rt, unwritten, Some(WriteFault));
     }
-    let ended = read_from(alloc, 1, None)?;
+    let ended = read_from(&rt, alloc, 1, None);
     expect_same(&rt, ended, Some(ReadFault::Ended));
-    let too_far = write_to(alloc, 1 << 40, b"far", None)?;
+    let too_far = write_to(&rt, alloc, 1 << 40, b"far", None);
     expect_same(&rt, too_far, Some(WriteFault));
-    Ok(())
 }
 
 // A file that takes nothing, and whose reads fail.

@@ -4,12 +4,11 @@ use clay_aloof::AloofGeometry;
 use share_files::HeaderRefusal;
 use share_format::ShareHeader;
 use share_run::{Head, header_of_share, is_of_cut, told_header};
-use std::test::Fail;
 
 // Shares 0 and 1 are of two files, 2 has no header, 3 is of the second file, and what stands in the place of 4 is another share 3.
 #[test]
-fn most_shares_tell_the_cut(rt: HostRuntime) -> Result<(), Fail> {
-    let geometry = AloofGeometry::new(2, 3, 3, 1)?;
+fn most_shares_tell_the_cut(rt: HostRuntime) {
+    let geometry = AloofGeometry::new(2, 3, 3, 1).expect(&rt, "a code");
     let one = ShareHeader::new(geometry, 0, 5, 7);
     let other = ShareHeader::new(geometry, 1, 5, 8);
     let third: Head = Ok(header_of_share(&other, 3));
@@ -22,5 +21,4 @@ fn most_shares_tell_the_cut(rt: HostRuntime) -> Result<(), Fail> {
     expect_same(&rt, is_of_cut(&other, 3, &third), true);
     expect_same(&rt, is_of_cut(&other, 4, &third), false);
     expect_same(&rt, is_of_cut(&one, 3, &third), false);
-    Ok(())
 }

@@ -2,11 +2,10 @@
 ghost use Rattle.std.specs.Prelude.{◌≡◌};
 ghost use Rattle.clay_aloof.specs.Shape.{aloof_of};
 
-use crate::{expect_bytes, expect_same};
+use crate::{expect_bytes, expect_same, new_crc};
 use clay_aloof::AloofGeometry;
 use crc64::{Combiner, Crc64};
 use share_format::{cut_stripe, extended_by_chunk, is_block};
-use std::test::Fail;
 
 const STRIPE: [u8; 16] = [0x01, 0, 0, 0, 0x53, 0, 0, 0, 0xa7, 0, 0, 0, 0, 0, 0, 0];
 
@@ -38,28 +37,26 @@ fn is_still_one(g: AloofGeometry, crc: &Crc64, place: usize) -> bool
 }
 
 #[test]
-fn cuts_a_worked_stripe(rt: HostRuntime) -> Result<(), Fail> {
-    let g = AloofGeometry::new(2, 3, 3, 1)?;
-    let crc = Crc64::new(rt.alloc())?;
-    let blocks = cut_stripe(rt.alloc(), g, &crc, &STRIPE)?;
+fn cuts_a_worked_stripe(rt: HostRuntime) {
+    let g = AloofGeometry::new(2, 3, 3, 1).expect(&rt, "a code");
+    let crc = new_crc(&rt, rt.alloc());
+    let blocks = cut_stripe(rt.alloc(), g, &crc, &STRIPE).expect(&rt, "blocks");
     assert!(rt; blocks.len() == 5);
     let block = &blocks[3];
     assert!(rt; block.len() == 72);
     expect_bytes(&rt, &block[64..], &CHUNK);
     expect_bytes(&rt, &block[..8], &CHECKSUM);
-    Ok(())
 }
 
 #[test]
-fn compares_and_sums_by_a_table(rt: HostRuntime) -> Result<(), Fail> {
-    let g = AloofGeometry::new(2, 4, 4, 1)?;
-    let crc = Crc64::new(rt.alloc())?;
+fn compares_and_sums_by_a_table(rt: HostRuntime) {
+    let g = AloofGeometry::new(2, 4, 4, 1).expect(&rt, "a code");
+    let crc = new_crc(&rt, rt.alloc());
     expect_same(&rt, is_still_one(g, &crc, BLOCK.len()), true);
     expect_same(&rt, is_still_one(g, &crc, 8), false);
     expect_same(&rt, is_still_one(g, &crc, 64), false);
     expect_same(&rt, is_still_one(g, &crc, 80), false);
-    let combiner = Combiner::new(rt.alloc(), &crc, 1)?;
+    let combiner = Combiner::new(rt.alloc(), &crc, 1).expect(&rt, "combiner");
     let sum = extended_by_chunk(g, &combiner, 0, &BLOCK);
     expect_same(&rt, sum, 0x995D_C9BB_DF19_39FA);
-    Ok(())
 }
