@@ -1,13 +1,14 @@
 //! The command `check`: the shares of a folder opened and judged.
-ghost use Rattle.std.specs.Prelude.{◌≡◌, vec_len, IfOk};
+ghost use Rattle.std.specs.Prelude.{◌≡◌, length};
+ghost use Rattle.clay_aloof.specs.Shape.{all_chunks};
 
-use crate::folder::{Folder, first_shares, open_folder, tell_missing};
+use crate::folder::{Folder, FolderCommand, chunk_bytes, fit_count, open_folder};
 use crate::share_file::ShareFile;
-use crc64::Crc64;
+use crate::tell::{tell_missing, tell_share};
 use share_files::ShareFault;
 use share_format::ShareHeader;
-use share_run::{Progress, ends_short, serve_check};
-use std::alloc::{AllocError, Global};
+use share_run::{ends_short, serve_check};
+use std::alloc::AllocError;
 use std::fs::File;
 use std::io::Eprint;
 use std::process::ExitCode;
@@ -25,20 +26,9 @@ fn tell_faults<R: Eprint>(
             continue;
         }
         if let Some(Some(fault)) = verdicts.get(number) {
-            let _said = eprintln!(rt; "clay_shares: {stem}.{number:02}.clay: {fault}");
+            tell_share(rt, stem, number, *fault);
         }
     }
-}
-
-fn no_verdicts(alloc: Global, count: u32) -> Result<Vec<Option<ShareFault>>, AllocError>
-    ensures { IfOk result (λ verdicts. vec_len verdicts ≡ count) }
-{
-    let wanted = count as usize;
-    let mut verdicts = Vec::new(alloc);
-    'verdicts: while verdicts.len() < wanted {
-        verdicts.push(None)?;
-    }
-    Ok(verdicts)
 }
 
 // Says which files have a number that no share has, behind the shares, and whether there are any.
@@ -46,9 +36,7 @@ fn tell_strays<R: Eprint>(rt: &R, stem: &str, count: u32, sources: &[ShareFile<R
     let mut are_there = false;
     for (number, source) in sources.iter().enumerate() {
         if number >= count as usize && !source.is_missing() {
-            let _said = eprintln!(rt;
-                "clay_shares: {stem}.{number:02}.clay: the code has no share of this number"
-            );
+            tell_share(rt, stem, number, "the code has no share of this number");
             are_there = true;
         }
     }
@@ -57,60 +45,72 @@ fn tell_strays<R: Eprint>(rt: &R, stem: &str, count: u32, sources: &[ShareFile<R
 
 // How many bytes the shares have that are there, but for their headers and tables.
 fn bytes_of<R: Eprint>(header: &ShareHeader, sources: &[ShareFile<R>]) -> u64 {
-    let chunk = u64::from(header.geometry().chunk_len());
-    let each = header.stripe_count().saturating_mul(chunk);
-    let there = sources.iter().filter(|source| !source.is_missing()).count();
-    each.saturating_mul(there as u64)
+    let each = chunk_bytes(header);
+    let mut all = 0u64;
+    for source in sources {
+        if !source.is_missing() {
+            all = all.saturating_add(each);
+        }
+    }
+    all
+}
+
+// Judges all shares, and says what is wrong with them.
+fn judge_shares<R: Eprint>(
+    command: &FolderCommand<R>,
+    header: &ShareHeader,
+    stem: &str,
+    strays: bool,
+    sources: &mut [ShareFile<R>],
+    verdicts: &mut [Option<ShareFault>],
+) -> ExitCode
+    requires sources { length sources.old ≡ all_chunks header.now.shape }
+    requires verdicts { length verdicts.old ≡ all_chunks header.now.shape }
+{
+    let rt = command.rt;
+    let folder = command.folder;
+    tell_missing(rt, stem, sources, None);
+    let exit = serve_check(
+        rt,
+        command.alloc,
+        command.crc,
+        header,
+        folder,
+        strays,
+        sources,
+        verdicts,
+    );
+    tell_faults(rt, stem, sources, verdicts);
+    exit
 }
 
 // Judges the shares of a folder.
 fn check_shares<R: Eprint>(
-    rt: &R,
-    alloc: Global,
-    progress: &Progress,
-    crc: &Crc64,
-    folder: &str,
-    shares: Folder<R>,
+    command: &FolderCommand<R>,
+    shares: &mut Folder<R>,
 ) -> Result<ExitCode, AllocError> {
-    let Folder {
-        stem,
-        header,
-        sources,
-        ..
-    } = shares;
+    let alloc = command.alloc;
+    let header = shares.header;
+    let stem = shares.stem.as_str();
     let count = header.geometry().n();
-    let strays = tell_strays(rt, stem.as_str(), count, &sources);
-    let mut sources = first_shares(alloc, sources, count)?;
-    let mut verdicts = no_verdicts(alloc, count)?;
-    tell_missing(rt, stem.as_str(), &sources, None);
-    progress.begin(bytes_of(&header, &sources));
-    let exit = serve_check(
-        rt,
-        alloc,
-        crc,
-        &header,
-        folder,
-        strays,
-        &mut sources,
-        &mut verdicts,
-    );
-    tell_faults(rt, stem.as_str(), &sources, &verdicts);
-    Ok(exit)
+    let strays = tell_strays(command.rt, stem, count, &shares.sources);
+    fit_count(alloc, &mut shares.sources, count)?;
+    let mut verdicts = vec![in alloc; None::<ShareFault>; count as usize]?;
+    command.progress.begin(bytes_of(&header, &shares.sources));
+    let sources = &mut shares.sources;
+    Ok(judge_shares(command, &header, stem, strays, sources, &mut verdicts))
 }
 
 /// Judges the shares of a folder, each to its end.
-pub(crate) fn run_check<'a, R: Files<File = File> + AllocGlobal + Clone + Drop + Eprint>(
-    rt: &'a R,
-    progress: &'a Progress,
-    crc: &Crc64,
-    folder: &str,
+pub(crate) fn run_check<R: Files<File = File> + AllocGlobal + Clone + Drop + Eprint>(
+    command: &FolderCommand<R>,
 ) -> ExitCode {
-    let shares = match open_folder(rt, crc, Some(progress), folder) {
+    let mut shares = match open_folder(command, Some(command.progress), false) {
         Ok(shares) => shares,
         Err(exit) => return exit,
     };
-    match check_shares(rt, rt.alloc(), progress, crc, folder, shares) {
+    match check_shares(command, &mut shares) {
         Ok(exit) => exit,
-        Err(AllocError) => ends_short(rt, folder),
+        Err(AllocError) => ends_short(command.rt, command.folder),
     }
 }

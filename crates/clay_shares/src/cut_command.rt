@@ -1,14 +1,15 @@
 //! The command `cut`: the file and its shares' files opened, cut, and what is left of them taken away.
 ghost use Rattle.std.specs.Prelude.{◌≡◌, [], All, vec_len, IfOk};
+ghost use Rattle.clay_aloof.specs.Shape.{all_chunks};
 
-use crate::code::code_for;
 use crate::disk::StdPlaces;
-use crate::folder::standing_share;
-use crate::words::CodeAsked;
 use clay_aloof::AloofGeometry;
 use clay_bytes::StdSource;
 use file_bytes::StdFile;
-use share_run::{Progress, ShareStatus, ToldFile, ends, ends_short, exit_with, fails, serve_cut};
+use share_run::{
+    CodeAsked, Progress, ShareStatus, ToldFile, code_for, ends, ends_short, exit_with, fails,
+    list_shares, serve_cut, share_path,
+};
 use std::alloc::Global;
 use std::fs::{self, File};
 use std::io::{self, Eprint, ErrorKind};
@@ -23,29 +24,47 @@ fn name_in(path: &str) -> &str {
     }
 }
 
+// A file that is cut into shares in a folder.
+#[derive(Drop)]
+struct Cut<'a, R: Eprint> {
+    rt: &'a R,
+    alloc: Global,
+    progress: &'a Progress,
+    geometry: AloofGeometry,
+    path: &'a str,
+    folder: &'a str,
+}
+
+// The file in which the share of a number is written. Says why, where it can't be made.
+fn open_share<'a, R: Files<File = File> + Eprint>(
+    cut: &Cut<R>,
+    places: &mut StdPlaces<'a, R>,
+    number: usize,
+) -> Result<StdFile<ToldFile<'a, R>>, ExitCode>
+    ensures { IfOk result (λ sink. sink.put ≡ []) }
+{
+    let Ok(path) = share_path(cut.alloc, cut.folder, name_in(cut.path), number) else {
+        return Err(ends_short(cut.rt, cut.folder));
+    };
+    let file = places.open_beside(cut.alloc, path.as_str(), None)?;
+    Ok(StdFile::new(file))
+}
+
 // The files in which a file's shares are written. Says why, where one can't be made.
 fn open_shares<'a, R: Files<File = File> + Eprint>(
-    rt: &R,
-    alloc: Global,
+    cut: &Cut<R>,
     places: &mut StdPlaces<'a, R>,
-    folder: &str,
-    name: &str,
-    shares: u32,
 ) -> Result<Vec<StdFile<ToldFile<'a, R>>>, ExitCode>
-    ensures count { IfOk result (λ sinks. vec_len sinks ≡ shares) }
+    ensures count { IfOk result (λ sinks. vec_len sinks ≡ all_chunks cut.now.geometry) }
     ensures empty { IfOk result (λ sinks. All (λ sink. sink.put ≡ []) sinks.items) }
 {
-    let wanted = shares as usize;
-    let mut sinks = Vec::new(alloc);
+    let wanted = cut.geometry.n() as usize;
+    let Ok(mut sinks) = Vec::with_capacity(cut.alloc, wanted) else {
+        return Err(ends_short(cut.rt, cut.folder));
+    };
     'sinks: while sinks.len() < wanted {
-        let share = sinks.len();
-        let Ok(path) = format!(in alloc; "{folder}/{name}.{share:02}.clay") else {
-            return Err(ends_short(rt, folder));
-        };
-        let file = places.open_beside(alloc, path.as_str(), None)?;
-        let Ok(()) = sinks.push(StdFile::new(file)) else {
-            return Err(ends_short(rt, folder));
-        };
+        let sink = open_share(cut, places, sinks.len())?;
+        sinks.push_reserved(sink);
     }
     Ok(sinks)
 }
@@ -57,80 +76,93 @@ fn make_folder<R: Files>(rt: &R, folder: &str) -> io::Result<()> {
     }
 }
 
+// Makes a folder, where it isn't there. Says why, where a share stands in it or it can't be made.
+fn ready_folder<R: Files<File = File> + AllocGlobal + Clone + Drop + Eprint>(
+    rt: &R,
+    folder: &str,
+) -> Result<(), ExitCode> {
+    if let Err(error) = make_folder(rt, folder) {
+        return Err(fails(rt, ShareStatus::WriteFault, folder, &error));
+    }
+    let listed = match list_shares(rt, folder) {
+        Ok(listed) => listed,
+        Err(error) => return Err(fails(rt, ShareStatus::WriteFault, folder, &error)),
+    };
+    match listed.first() {
+        Some(share) => {
+            let why = "a share stands in the folder already";
+            Err(ends(rt, ShareStatus::WriteFault, share, why))
+        }
+        None => Ok(()),
+    }
+}
+
+// Cuts an open file into shares beside their places, and puts them there.
+fn cut_beside<'a, R: Files<File = File> + Eprint>(
+    cut: &Cut<R>,
+    source: &mut StdSource<ToldFile<R>>,
+    places: &mut StdPlaces<'a, R>,
+) -> ExitCode {
+    let mut sinks = match open_shares(cut, places) {
+        Ok(sinks) => sinks,
+        Err(exit) => return exit,
+    };
+    serve_cut(
+        cut.rt,
+        cut.alloc,
+        cut.geometry,
+        cut.path,
+        source,
+        &mut sinks,
+        places,
+    )
+}
+
 // Cuts an open file into shares in a folder in which no share stands.
 fn cut_open<R: Files<File = File> + Eprint>(
-    rt: &R,
-    alloc: Global,
-    geometry: AloofGeometry,
-    path: &str,
-    file: ToldFile<R>,
-    folder: &str,
+    cut: &Cut<R>,
+    source: &mut StdSource<ToldFile<R>>,
 ) -> ExitCode {
-    let mut places = StdPlaces::new(rt, alloc);
-    let exit = match open_shares(rt, alloc, &mut places, folder, name_in(path), geometry.n()) {
-        Ok(mut sinks) => {
-            let mut source = StdSource::new(file);
-            serve_cut(
-                rt,
-                alloc,
-                geometry,
-                path,
-                &mut source,
-                &mut sinks,
-                &mut places,
-            )
-        }
-        Err(exit) => exit,
-    };
+    let mut places = StdPlaces::new(cut.rt, cut.alloc);
+    let exit = cut_beside(cut, source, &mut places);
     places.clear();
     exit
 }
 
 // Cuts an open file into shares in a folder, which is made where it isn't there.
 fn cut_into<R: Files<File = File> + AllocGlobal + Clone + Drop + Eprint>(
-    rt: &R,
-    geometry: AloofGeometry,
-    path: &str,
-    file: ToldFile<R>,
-    folder: &str,
+    cut: &Cut<R>,
+    source: &mut StdSource<ToldFile<R>>,
 ) -> ExitCode {
-    if let Err(error) = make_folder(rt, folder) {
-        return fails(rt, ShareStatus::WriteFault, folder, &error);
-    }
-    match standing_share(rt, folder) {
-        Ok(None) => cut_open(rt, rt.alloc(), geometry, path, file, folder),
-        Ok(Some(share)) => {
-            let why = "a share stands in the folder already";
-            ends(rt, ShareStatus::WriteFault, share.as_str(), why)
-        }
-        Err(error) => fails(rt, ShareStatus::WriteFault, folder, &error),
+    match ready_folder(cut.rt, cut.folder) {
+        Ok(()) => cut_open(cut, source),
+        Err(exit) => exit,
     }
 }
 
-// Opens the file at a path, and cuts it.
-fn open_and_cut<'a, R: Files<File = File> + AllocGlobal + Clone + Drop + Eprint>(
-    rt: &'a R,
-    progress: &'a Progress,
-    geometry: AloofGeometry,
-    path: &str,
-    folder: &str,
+// Opens the file, and cuts it.
+fn open_and_cut<R: Files<File = File> + AllocGlobal + Clone + Drop + Eprint>(
+    cut: &Cut<R>,
 ) -> ExitCode {
-    let Ok(name) = String::from_str(rt.alloc(), path) else {
-        return ends_short(rt, path);
+    let Ok(name) = String::from_str(cut.alloc, cut.path) else {
+        return ends_short(cut.rt, cut.path);
     };
-    match fs::open(rt, path) {
+    match fs::open(cut.rt, cut.path) {
         Ok(file) => {
-            let told = ToldFile::new(rt, name, file, Some(progress));
-            cut_into(rt, geometry, path, told, folder)
+            let told = ToldFile::new(cut.rt, name, file, Some(cut.progress));
+            let mut source = StdSource::new(told);
+            let exit = cut_into(cut, &mut source);
+            drop(source);
+            exit
         }
-        Err(error) => fails(rt, ShareStatus::ReadFault, path, &error),
+        Err(error) => fails(cut.rt, ShareStatus::ReadFault, cut.path, &error),
     }
 }
 
 /// Cuts the file at a path into shares in a folder.
-pub(crate) fn run_cut<'a, R: Files<File = File> + AllocGlobal + Clone + Drop + Eprint>(
-    rt: &'a R,
-    progress: &'a Progress,
+pub(crate) fn run_cut<R: Files<File = File> + AllocGlobal + Clone + Drop + Eprint>(
+    rt: &R,
+    progress: &Progress,
     code: CodeAsked,
     path: &str,
     folder: &str,
@@ -150,7 +182,14 @@ pub(crate) fn run_cut<'a, R: Files<File = File> + AllocGlobal + Clone + Drop + E
         u64::MAX
     };
     match code_for(code, size) {
-        Ok(geometry) => open_and_cut(rt, progress, geometry, path, folder),
+        Ok(geometry) => open_and_cut(&Cut {
+            rt,
+            alloc: rt.alloc(),
+            progress,
+            geometry,
+            path,
+            folder,
+        }),
         Err(fault) => {
             let _said = eprintln!(rt; "clay_shares: {fault}");
             exit_with(ShareStatus::Usage)

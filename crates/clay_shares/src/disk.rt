@@ -1,5 +1,6 @@
 //! Files of std that are written beside their places. This is the trusted edge: that a file is put where its path says isn't proved.
 
+use crate::folder::stands_no_file;
 use clay_bytes::{Failed, StdSink};
 use file_bytes::StdFile;
 use share_run::{
@@ -29,13 +30,11 @@ fn path_pair(alloc: Global, path: &str) -> io::Result<PathPair> {
 
 // Refuses a place where something else than a file stands. What it is by itself, as a device, would be gone after the rename.
 fn check_place<R: Files + Eprint>(rt: &R, path: &str) -> Result<(), ExitCode> {
-    match fs::metadata(rt, path) {
-        Ok(about) if !about.is_file() => {
-            let why = "it is there, and is no plain file";
-            Err(ends(rt, ShareStatus::WriteFault, path, why))
-        }
-        _ => Ok(()),
+    if stands_no_file(rt, path) {
+        let why = "it is there, and is no plain file";
+        return Err(ends(rt, ShareStatus::WriteFault, path, why));
     }
+    Ok(())
 }
 
 // Makes a file that isn't there yet.

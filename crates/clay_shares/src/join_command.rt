@@ -1,13 +1,16 @@
 //! The command `join`: the shares of a folder opened and joined, and what is left of the file taken away.
-ghost use Rattle.std.specs.Prelude.{◌≡◌, vec_len, IfOk};
+ghost use Rattle.std.specs.Prelude.{◌≡◌, [], length};
+ghost use Rattle.clay_bytes.specs.Standard.{write_log};
+ghost use Rattle.clay_aloof.specs.Shape.{all_chunks};
 
 use crate::disk::StdPlaces;
-use crate::folder::{Folder, first_shares, open_fit, tell_missing};
+use crate::folder::{Folder, FolderCommand, fit_count, open_folder};
 use crate::share_file::ShareFile;
+use crate::tell::{tell_lack, tell_missing};
 use clay_bytes::StdSink;
-use crc64::Crc64;
-use share_run::{Progress, ToldFile, ends_short, serve_join};
-use std::alloc::{AllocError, Global};
+use share_format::ShareHeader;
+use share_run::{ToldFile, ends_short, serve_join};
+use std::alloc::AllocError;
 use std::fs::File;
 use std::io::Eprint;
 use std::process::ExitCode;
@@ -20,81 +23,103 @@ fn tell_missed<R: Eprint>(rt: &R, stem: &str, sources: &[ShareFile<R>], missed: 
             continue;
         }
         if let Some(Some(stripe)) = missed.get(number) {
-            let _said = eprintln!(rt;
-                "clay_shares: {stem}.{number:02}.clay: its block of stripe {stripe} is rotten or missing"
-            );
+            tell_lack(rt, stem, number, "block", *stripe);
         }
     }
 }
 
-fn no_marks(alloc: Global, count: u32) -> Result<Vec<Option<u64>>, AllocError>
-    ensures { IfOk result (λ marks. vec_len marks ≡ count) }
+// Joins all shares to an open file beside its place, and says which of them lacked blocks.
+fn join_shares<'a, R: Files<File = File> + Eprint>(
+    command: &FolderCommand<R>,
+    header: &ShareHeader,
+    path: &str,
+    stem: &str,
+    sources: &mut [ShareFile<R>],
+    sink: &mut StdSink<ToldFile<'a, R>>,
+    places: &mut StdPlaces<'a, R>,
+    missed: &mut [Option<u64>],
+) -> ExitCode
+    requires sources { length sources.old ≡ all_chunks header.now.shape }
+    requires missed { length missed.old ≡ all_chunks header.now.shape }
+    requires empty { write_log sink.old ≡ [] }
 {
-    let wanted = count as usize;
-    let mut marks = Vec::new(alloc);
-    'marks: while marks.len() < wanted {
-        marks.push(None)?;
-    }
-    Ok(marks)
+    let rt = command.rt;
+    tell_missing(rt, stem, sources, None);
+    let exit = serve_join(
+        rt,
+        command.alloc,
+        command.crc,
+        header,
+        path,
+        sources,
+        sink,
+        places,
+        missed,
+    );
+    tell_missed(rt, stem, sources, missed);
+    exit
 }
 
 // Joins the shares of a folder to an open file beside its place.
 fn join_open<'a, R: Files<File = File> + Eprint>(
-    rt: &R,
-    alloc: Global,
-    crc: &Crc64,
-    shares: Folder<R>,
+    command: &FolderCommand<R>,
+    shares: &mut Folder<R>,
     path: &str,
-    file: ToldFile<'a, R>,
+    sink: &mut StdSink<ToldFile<'a, R>>,
     places: &mut StdPlaces<'a, R>,
-) -> Result<ExitCode, AllocError> {
-    let Folder {
-        stem,
-        header,
-        sources,
-        ..
-    } = shares;
+) -> Result<ExitCode, AllocError>
+    requires { write_log sink.old ≡ [] }
+{
+    let alloc = command.alloc;
+    let header = shares.header;
+    let stem = shares.stem.as_str();
     let count = header.geometry().n();
-    let mut sources = first_shares(alloc, sources, count)?;
-    let mut missed = no_marks(alloc, count)?;
-    tell_missing(rt, stem.as_str(), &sources, None);
-    let mut sink = StdSink::new(file);
-    let exit = serve_join(
-        rt,
-        alloc,
-        crc,
+    fit_count(alloc, &mut shares.sources, count)?;
+    let mut missed = vec![in alloc; None::<u64>; count as usize]?;
+    let sources = &mut shares.sources;
+    Ok(join_shares(
+        command,
         &header,
         path,
-        &mut sources,
-        &mut sink,
+        stem,
+        sources,
+        sink,
         places,
         &mut missed,
-    );
-    tell_missed(rt, stem.as_str(), &sources, &missed);
-    Ok(exit)
+    ))
+}
+
+// Joins the shares of a folder to a file beside its place.
+fn join_beside<'a, R: Files<File = File> + Eprint>(
+    command: &FolderCommand<'a, R>,
+    shares: &mut Folder<R>,
+    path: &str,
+    places: &mut StdPlaces<'a, R>,
+) -> ExitCode {
+    let mut sink = match places.open_beside(command.alloc, path, Some(command.progress)) {
+        Ok(file) => StdSink::new(file),
+        Err(exit) => return exit,
+    };
+    let joined = join_open(command, shares, path, &mut sink, places);
+    drop(sink);
+    match joined {
+        Ok(exit) => exit,
+        Err(AllocError) => ends_short(command.rt, path),
+    }
 }
 
 /// Joins the shares of a folder to a file at a path.
-pub(crate) fn run_join<'a, R: Files<File = File> + AllocGlobal + Clone + Drop + Eprint>(
-    rt: &'a R,
-    progress: &'a Progress,
-    crc: &Crc64,
-    folder: &str,
+pub(crate) fn run_join<R: Files<File = File> + AllocGlobal + Clone + Drop + Eprint>(
+    command: &FolderCommand<R>,
     path: &str,
 ) -> ExitCode {
-    let shares = match open_fit(rt, crc, folder) {
+    let mut shares = match open_folder(command, None, true) {
         Ok(shares) => shares,
         Err(exit) => return exit,
     };
-    progress.begin(shares.header.size());
-    let mut places = StdPlaces::new(rt, rt.alloc());
-    let exit = match places.open_beside(rt.alloc(), path, Some(progress)) {
-        Ok(file) => match join_open(rt, rt.alloc(), crc, shares, path, file, &mut places) {
-            Ok(exit) => exit,
-            Err(AllocError) => ends_short(rt, path),
-        },
-        Err(exit) => exit,
-    };
+    command.progress.begin(shares.header.size());
+    let mut places = StdPlaces::new(command.rt, command.alloc);
+    let exit = join_beside(command, &mut shares, path, &mut places);
     places.clear();
     exit
 }

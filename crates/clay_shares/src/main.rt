@@ -3,7 +3,6 @@
 #![tactic(auto)]
 
 mod check_command;
-mod code;
 mod cut_command;
 mod disk;
 mod folder;
@@ -11,6 +10,7 @@ mod join_command;
 mod mend_command;
 mod program;
 mod share_file;
+mod tell;
 mod words;
 
 use std::io::IsTerminal;

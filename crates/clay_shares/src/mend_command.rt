@@ -1,17 +1,18 @@
 //! The command `mend`: the shares of a folder opened, and a lost one made anew from parts of the others, or from whole chunks.
-ghost use Rattle.std.specs.Prelude.{◌≡◌, length, IfOk};
+ghost use Rattle.std.specs.Prelude.{◌≡◌, [], length, IfOk};
 ghost use Rattle.clay_aloof.specs.Shape.{all_chunks};
 ghost use Rattle.share_mends.specs.Asked.{AreHelpers};
 
 use crate::disk::StdPlaces;
-use crate::folder::{Folder, first_shares, open_fit, tell_missing};
-use crate::share_file::ShareFile;
+use crate::folder::{Folder, FolderCommand, chunk_bytes, fit_count, open_folder};
+use crate::share_file::{ShareFile, Taken};
+use crate::tell::{tell_lack, tell_missing, tell_share};
 use crc64::Crc64;
 use file_bytes::StdFile;
 use share_format::ShareHeader;
 use share_run::{
-    MendStop, Progress, ShareStatus, choose_helpers, ends, ends_short, header_of_share, serve_mend,
-    serve_rebuild,
+    MendStop, Progress, ShareStatus, ToldFile, choose_helpers, ends, ends_short, header_of_share,
+    serve_mend, serve_rebuild, share_path,
 };
 use std::alloc::{AllocError, Global};
 use std::fs::File;
@@ -30,22 +31,20 @@ fn good_marks<R: Eprint>(alloc: Global, sources: &[ShareFile<R>]) -> Result<Vec<
     Ok(marks)
 }
 
-// Says what was taken of each share, beside what a Reed-Solomon code would take.
-fn tell_taken<R: Eprint>(rt: &R, stem: &str, header: &ShareHeader, sources: &[ShareFile<R>]) {
-    let mut all = 0u64;
-    for (number, source) in sources.iter().enumerate() {
-        let taken = source.taken();
-        if taken.reads > 0 {
-            let bytes = taken.bytes;
-            let reads = taken.reads;
-            let _said = eprintln!(rt;
-                "clay_shares: {stem}.{number:02}.clay: {bytes} bytes in {reads} reads"
-            );
-            all = all.saturating_add(bytes);
-        }
-    }
-    let geometry = header.geometry();
-    let k = geometry.k();
+// Says what was taken of a share.
+fn tell_reads<R: Eprint>(rt: &R, stem: &str, number: usize, taken: Taken) {
+    let Taken { reads, bytes } = taken;
+    tell_share(
+        rt,
+        stem,
+        number,
+        format_args!("{bytes} bytes in {reads} reads"),
+    );
+}
+
+// Says how much was taken in all, beside what a Reed-Solomon code would take.
+fn tell_all<R: Eprint>(rt: &R, header: &ShareHeader, all: u64) {
+    let k = header.geometry().k();
     let each = chunk_bytes(header);
     let other = each.saturating_mul(u64::from(k));
     let _said = eprintln!(rt;
@@ -53,35 +52,88 @@ fn tell_taken<R: Eprint>(rt: &R, stem: &str, header: &ShareHeader, sources: &[Sh
     );
 }
 
-// The bytes of a share's chunks.
-fn chunk_bytes(header: &ShareHeader) -> u64 {
-    let chunk = u64::from(header.geometry().chunk_len());
-    header.stripe_count().saturating_mul(chunk)
+// Says what was taken of each share and in all.
+fn tell_taken<R: Eprint>(rt: &R, stem: &str, header: &ShareHeader, sources: &[ShareFile<R>]) {
+    let mut all = 0u64;
+    for (number, source) in sources.iter().enumerate() {
+        let taken = source.taken();
+        if taken.reads > 0 {
+            tell_reads(rt, stem, number, taken);
+            all = all.saturating_add(taken.bytes);
+        }
+    }
+    tell_all(rt, header, all);
 }
 
 // Says why parts don't do.
 fn tell_stop<R: Eprint>(rt: &R, stem: &str, stop: MendStop) {
-    let _said = match stop {
+    match stop {
         MendStop::RottenHelper(part) => {
-            let share = part.share;
-            let stripe = part.stripe;
-            eprintln!(rt;
-                "clay_shares: {stem}.{share:02}.clay: its part of stripe {stripe} is rotten or missing"
-            )
+            tell_lack(rt, stem, part.share as usize, "part", part.stripe);
         }
-        MendStop::UnreadHelper => eprintln!(rt; "clay_shares: {stem}: a read of a share failed"),
-    };
+        MendStop::UnreadHelper => {
+            let why = "a read of a share failed";
+            let _said = ends(rt, ShareStatus::ReadFault, stem, why);
+        }
+    }
+}
+
+// What a mend works with: the names of the shares, and the path of the one that is made.
+#[derive(Drop)]
+struct Mend<'a, R: Eprint> {
+    rt: &'a R,
+    alloc: Global,
+    progress: &'a Progress,
+    crc: &'a Crc64,
+    stem: &'a str,
+    path: &'a str,
+}
+
+// Opens the file beside the share's place, and begins to count its bytes.
+fn open_sink<'a, R: Files<File = File> + Eprint>(
+    mend: &Mend<'a, R>,
+    header: &ShareHeader,
+    places: &mut StdPlaces<'a, R>,
+) -> Result<StdFile<ToldFile<'a, R>>, ExitCode>
+    ensures { IfOk result (λ sink. sink.put ≡ []) }
+{
+    let file = places.open_beside(mend.alloc, mend.path, Some(mend.progress))?;
+    mend.progress.begin(chunk_bytes(header));
+    Ok(StdFile::new(file))
+}
+
+// Mends a share from the marked helpers' parts into an open file. None where one of them stops it.
+fn parts_into<'a, R: Files<File = File> + Eprint>(
+    mend: &Mend<'a, R>,
+    header: &ShareHeader,
+    sources: &mut [ShareFile<R>],
+    helpers: &[bool],
+    sink: &mut StdFile<ToldFile<'a, R>>,
+    places: &mut StdPlaces<'a, R>,
+) -> Option<ExitCode>
+    requires sources { length sources.old ≡ all_chunks header.now.shape }
+    requires helpers { AreHelpers header.now.shape header.now.share helpers.now }
+    requires empty { sink.old.put ≡ [] }
+{
+    match serve_mend(
+        mend.rt, mend.alloc, mend.crc, header, mend.path, sources, helpers, sink, places,
+    ) {
+        Ok(exit) => {
+            tell_taken(mend.rt, mend.stem, header, sources);
+            Some(exit)
+        }
+        Err(stop) => {
+            tell_stop(mend.rt, mend.stem, stop);
+            places.clear();
+            None
+        }
+    }
 }
 
 // Mends a share from the marked helpers' parts. None where one of them stops it.
 fn by_parts<'a, R: Files<File = File> + Eprint>(
-    rt: &R,
-    alloc: Global,
-    progress: &'a Progress,
-    crc: &Crc64,
-    stem: &str,
+    mend: &Mend<'a, R>,
     header: &ShareHeader,
-    path: &str,
     sources: &mut [ShareFile<R>],
     helpers: &[bool],
     places: &mut StdPlaces<'a, R>,
@@ -89,150 +141,126 @@ fn by_parts<'a, R: Files<File = File> + Eprint>(
     requires sources { length sources.old ≡ all_chunks header.now.shape }
     requires helpers { AreHelpers header.now.shape header.now.share helpers.now }
 {
-    let file = match places.open_beside(alloc, path, Some(progress)) {
-        Ok(file) => file,
-        Err(exit) => return Some(exit),
-    };
-    progress.begin(chunk_bytes(header));
-    let mut sink = StdFile::new(file);
-    match serve_mend(
-        rt, alloc, crc, header, path, sources, helpers, &mut sink, places,
-    ) {
-        Ok(exit) => {
-            tell_taken(rt, stem, header, sources);
-            Some(exit)
+    match open_sink(mend, header, places) {
+        Ok(mut sink) => {
+            let mended = parts_into(mend, header, sources, helpers, &mut sink, places);
+            drop(sink);
+            mended
         }
-        Err(stop) => {
-            tell_stop(rt, stem, stop);
-            places.clear();
-            None
-        }
+        Err(exit) => Some(exit),
     }
+}
+
+// Mends a share from whole blocks of any `K` of those that are there into an open file.
+fn blocks_into<'a, R: Files<File = File> + Eprint>(
+    mend: &Mend<'a, R>,
+    header: &ShareHeader,
+    sources: &mut [ShareFile<R>],
+    sink: &mut StdFile<ToldFile<'a, R>>,
+    places: &mut StdPlaces<'a, R>,
+) -> ExitCode
+    requires sources { length sources.old ≡ all_chunks header.now.shape }
+    requires empty { sink.old.put ≡ [] }
+{
+    let lost = header.share() as usize;
+    tell_missing(mend.rt, mend.stem, sources, Some(lost));
+    let exit = serve_rebuild(
+        mend.rt, mend.alloc, mend.crc, header, mend.path, sources, sink, places,
+    );
+    tell_taken(mend.rt, mend.stem, header, sources);
+    exit
 }
 
 // Mends a share from whole blocks of any `K` of those that are there.
 fn by_blocks<'a, R: Files<File = File> + Eprint>(
-    rt: &R,
-    alloc: Global,
-    progress: &'a Progress,
-    crc: &Crc64,
-    stem: &str,
+    mend: &Mend<'a, R>,
     header: &ShareHeader,
-    path: &str,
     sources: &mut [ShareFile<R>],
     places: &mut StdPlaces<'a, R>,
 ) -> ExitCode
     requires sources { length sources.old ≡ all_chunks header.now.shape }
 {
-    let file = match places.open_beside(alloc, path, Some(progress)) {
-        Ok(file) => file,
-        Err(exit) => return exit,
-    };
-    tell_missing(rt, stem, sources, Some(header.share()));
-    progress.begin(chunk_bytes(header));
-    let mut sink = StdFile::new(file);
-    let exit = serve_rebuild(rt, alloc, crc, header, path, sources, &mut sink, places);
-    tell_taken(rt, stem, header, sources);
-    exit
+    match open_sink(mend, header, places) {
+        Ok(mut sink) => {
+            let exit = blocks_into(mend, header, sources, &mut sink, places);
+            drop(sink);
+            exit
+        }
+        Err(exit) => exit,
+    }
 }
 
-// Mends a share of those in a folder.
-fn mend_share<'a, R: Files<File = File> + Eprint>(
-    rt: &R,
-    alloc: Global,
-    progress: &'a Progress,
-    crc: &Crc64,
-    shares: Folder<R>,
+// Mends a share by parts of helpers among the good ones, where there are some that do, and else by whole blocks.
+fn mend_marked<'a, R: Files<File = File> + Eprint>(
+    mend: &Mend<'a, R>,
     header: &ShareHeader,
-    path: &str,
+    sources: &mut [ShareFile<R>],
+    good: &[bool],
     places: &mut StdPlaces<'a, R>,
-) -> Result<ExitCode, AllocError> {
-    let Folder {
-        stem: name,
-        sources,
-        ..
-    } = shares;
-    let stem = name.as_str();
+) -> Result<ExitCode, AllocError>
+    requires sources { length sources.old ≡ all_chunks header.now.shape }
+    requires good { length good.now ≡ all_chunks header.now.shape }
+{
     // a header's limits are known once its stripes are counted
     let _stripes = header.stripe_count();
     let geometry = header.geometry();
-    let mut sources = first_shares(alloc, sources, geometry.n())?;
-    let good = good_marks(alloc, &sources)?;
-    if let Some(helpers) = choose_helpers(alloc, geometry, header.share(), &good)? {
-        if let Some(exit) = by_parts(
-            rt,
-            alloc,
-            progress,
-            crc,
-            stem,
-            header,
-            path,
-            &mut sources,
-            &helpers,
-            places,
-        ) {
+    if let Some(helpers) = choose_helpers(mend.alloc, geometry, header.share(), good)? {
+        if let Some(exit) = by_parts(mend, header, sources, &helpers, places) {
             return Ok(exit);
         }
     }
-    Ok(by_blocks(
-        rt,
-        alloc,
-        progress,
-        crc,
-        stem,
-        header,
-        path,
-        &mut sources,
-        places,
-    ))
+    Ok(by_blocks(mend, header, sources, places))
 }
 
-// Mends a share of the number among those in a folder, beside its place.
-fn mend_numbered<'a, R: Files<File = File> + Eprint>(
-    rt: &'a R,
-    alloc: Global,
-    progress: &'a Progress,
-    crc: &Crc64,
-    folder: &str,
-    shares: Folder<R>,
+// Mends a share of those of a folder, beside its place.
+fn mend_beside<'a, R: Files<File = File> + Eprint>(
+    mend: &Mend<'a, R>,
+    header: &ShareHeader,
+    sources: &mut Vec<ShareFile<R>>,
+) -> Result<ExitCode, AllocError> {
+    fit_count(mend.alloc, sources, header.geometry().n())?;
+    let good = good_marks(mend.alloc, sources)?;
+    let mut places = StdPlaces::new(mend.rt, mend.alloc);
+    let exit = mend_marked(mend, header, sources, &good, &mut places);
+    places.clear();
+    exit
+}
+
+// Mends the share of a number of those in a folder.
+fn mend_numbered<R: Files<File = File> + Eprint>(
+    command: &FolderCommand<R>,
+    shares: &mut Folder<R>,
     number: u32,
 ) -> Result<ExitCode, AllocError> {
     let told = shares.header;
     if number >= told.geometry().n() {
         let why = "the code has no share of this number";
-        return Ok(ends(rt, ShareStatus::Usage, folder, why));
+        return Ok(ends(command.rt, ShareStatus::Usage, command.folder, why));
     }
-    let header = header_of_share(&told, number);
-    let path = format!(in alloc; "{folder}/{}.{number:02}.clay", shares.stem)?;
-    let mut places = StdPlaces::new(rt, alloc);
-    let exit = mend_share(
-        rt,
-        alloc,
-        progress,
-        crc,
-        shares,
-        &header,
-        path.as_str(),
-        &mut places,
-    );
-    places.clear();
-    exit
+    let stem = shares.stem.as_str();
+    let path = share_path(command.alloc, command.folder, stem, number as usize)?;
+    let mend = Mend {
+        rt: command.rt,
+        alloc: command.alloc,
+        progress: command.progress,
+        crc: command.crc,
+        stem,
+        path: path.as_str(),
+    };
+    mend_beside(&mend, &header_of_share(&told, number), &mut shares.sources)
 }
 
 /// Makes the share of a number in a folder anew.
-pub(crate) fn run_mend<'a, R: Files<File = File> + AllocGlobal + Clone + Drop + Eprint>(
-    rt: &'a R,
-    progress: &'a Progress,
-    crc: &Crc64,
-    folder: &str,
+pub(crate) fn run_mend<R: Files<File = File> + AllocGlobal + Clone + Drop + Eprint>(
+    command: &FolderCommand<R>,
     number: u32,
 ) -> ExitCode {
-    let shares = match open_fit(rt, crc, folder) {
+    let mut shares = match open_folder(command, None, true) {
         Ok(shares) => shares,
         Err(exit) => return exit,
     };
-    match mend_numbered(rt, rt.alloc(), progress, crc, folder, shares, number) {
+    match mend_numbered(command, &mut shares, number) {
         Ok(exit) => exit,
-        Err(AllocError) => ends_short(rt, folder),
+        Err(AllocError) => ends_short(command.rt, command.folder),
     }
 }

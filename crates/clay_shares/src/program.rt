@@ -1,6 +1,7 @@
 //! The program: the command that its words ask for.
 use crate::check_command::run_check;
 use crate::cut_command::run_cut;
+use crate::folder::FolderCommand;
 use crate::join_command::run_join;
 use crate::mend_command::run_mend;
 use crate::words::{Asked, asked_by};
@@ -17,40 +18,30 @@ const USAGE: &str =
 
 // The words after the program's name. Where one of them isn't UTF-8 there are none, which are no command's.
 fn words_of<R: Env + AllocGlobal>(rt: &R) -> io::Result<Vec<String>> {
-    let mut words = Vec::new(rt.alloc());
     match env::args(rt) {
-        Ok(args) => {
-            for word in args.skip(1) {
-                words.push(word)?;
-            }
-        }
-        Err(error) if error.kind() == ErrorKind::InvalidData => {}
-        Err(error) => return Err(error),
+        Ok(args) => Ok(args.skip(1).collect(rt.alloc())?),
+        Err(error) if error.kind() == ErrorKind::InvalidData => Ok(Vec::new(rt.alloc())),
+        Err(error) => Err(error),
     }
-    Ok(words)
 }
 
-fn run_asked<'a, R: Files<File = File> + AllocGlobal + Clone + Drop + Eprint>(
-    rt: &'a R,
-    progress: &'a Progress,
+fn run_asked<R: Files<File = File> + AllocGlobal + Clone + Drop + Eprint>(
+    rt: &R,
+    progress: &Progress,
     asked: Asked,
-    words: &[String],
 ) -> ExitCode {
     let Ok(crc) = Crc64::new(rt.alloc()) else {
         return ends_short(rt, "checksums");
     };
-    match (asked, words) {
-        (Asked::Cut(code), [_, _, _, path, folder, ..]) => {
-            run_cut(rt, progress, code, path.as_str(), folder.as_str())
+    match asked {
+        Asked::Cut { code, path, folder } => run_cut(rt, progress, code, path, folder),
+        Asked::Join { folder, path } => {
+            run_join(&FolderCommand::new(rt, progress, &crc, folder), path)
         }
-        (Asked::Join, [_, folder, path]) => {
-            run_join(rt, progress, &crc, folder.as_str(), path.as_str())
+        Asked::Mend { folder, number } => {
+            run_mend(&FolderCommand::new(rt, progress, &crc, folder), number)
         }
-        (Asked::Check, [_, folder]) => run_check(rt, progress, &crc, folder.as_str()),
-        (Asked::Mend(number), [_, folder, _]) => {
-            run_mend(rt, progress, &crc, folder.as_str(), number)
-        }
-        _ => exit_with(ShareStatus::Usage),
+        Asked::Check { folder } => run_check(&FolderCommand::new(rt, progress, &crc, folder)),
     }
 }
 
@@ -64,7 +55,7 @@ pub fn run<R: Env + AllocGlobal + Files<File = File> + Clone + Drop + Eprint>(
         return ends_short(rt, "its words");
     };
     match asked_by(&words) {
-        Some(asked) => run_asked(rt, &Progress::new(is_terminal), asked, &words),
+        Some(asked) => run_asked(rt, &Progress::new(is_terminal), asked),
         None => {
             let _said = eprintln!(rt; "{USAGE}");
             exit_with(ShareStatus::Usage)

@@ -7,17 +7,13 @@ use share_run::ToldFile;
 use std::io::Eprint;
 
 /// How many reads gave bytes of a share, and how many bytes they gave. The counts stop at the ends of their types.
-#[derive(Clone, Copy)]
+#[derive(Clone, Copy, Default)]
 pub(crate) struct Taken {
     pub(crate) reads: u64,
     pub(crate) bytes: u64,
 }
 
 impl Taken {
-    fn nothing() -> Self {
-        Taken { reads: 0, bytes: 0 }
-    }
-
     // After a read that gave so many bytes.
     fn and(self, count: usize) -> Self {
         if count == 0 {
@@ -42,27 +38,24 @@ pub(crate) struct ShareFile<'a, R: Eprint> {
 }
 
 impl<'a, R: Eprint> ShareFile<'a, R> {
-    /// No file. Whether it was said already why there is none.
-    pub(crate) fn missing(is_told: bool) -> Self {
+    fn new(file: Option<StdFile<ToldFile<'a, R>>>, is_told: bool) -> Self {
         ShareFile {
             is_told,
-            file: None,
+            file,
             given: PlaceLog::new(),
             ends: PositionLog::new(),
             failed: PositionLog::new(),
-            taken: Taken::nothing(),
+            taken: Taken::default(),
         }
     }
 
+    /// No file. Whether it was said already why there is none.
+    pub(crate) fn missing(is_told: bool) -> Self {
+        ShareFile::new(None, is_told)
+    }
+
     pub(crate) fn of(file: ToldFile<'a, R>) -> Self {
-        ShareFile {
-            is_told: false,
-            file: Some(StdFile::new(file)),
-            given: PlaceLog::new(),
-            ends: PositionLog::new(),
-            failed: PositionLog::new(),
-            taken: Taken::nothing(),
-        }
+        ShareFile::new(Some(StdFile::new(file)), false)
     }
 
     pub(crate) fn is_missing(&self) -> bool {
@@ -74,11 +67,9 @@ impl<'a, R: Eprint> ShareFile<'a, R> {
         self.is_told
     }
 
-    /// Closes it: it counts as missing. Where it is there, it was said why.
+    /// Closes the file, where it was said why: it counts as missing.
     pub(crate) fn close(&mut self) {
-        if self.file.is_some() {
-            self.is_told = true;
-        }
+        self.is_told = true;
         self.file = None;
     }
 
@@ -89,7 +80,7 @@ impl<'a, R: Eprint> ShareFile<'a, R> {
 
     /// Forgets what was read until now.
     pub(crate) fn count_anew(&mut self) {
-        self.taken = Taken::nothing();
+        self.taken = Taken::default();
     }
 }
 

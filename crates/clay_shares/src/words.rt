@@ -1,89 +1,114 @@
 //! What the program's words ask for.
 use line_grammar::read_number;
+use share_run::CodeAsked;
 
-/// The numbers of a code as far as words give them.
+/// A command, with the files that it names.
 #[derive(Clone, Copy)]
-pub(crate) struct CodeAsked {
-    pub(crate) k: u32,
-    pub(crate) m: u32,
-    pub(crate) helpers: Option<u32>,
-    pub(crate) width: Option<u32>,
-}
-
-/// A command. The files that it names are among its words.
-#[derive(Clone, Copy)]
-pub(crate) enum Asked {
+pub(crate) enum Asked<'a> {
     /// `cut K M FILE FOLDER`, then options.
-    Cut(CodeAsked),
+    Cut {
+        code: CodeAsked,
+        path: &'a str,
+        folder: &'a str,
+    },
     /// `join FOLDER FILE`.
-    Join,
+    Join {
+        folder: &'a str,
+        path: &'a str,
+    },
     /// `mend FOLDER I`, with the share's number.
-    Mend(u32),
+    Mend {
+        folder: &'a str,
+        number: u32,
+    },
     /// `check FOLDER`.
-    Check,
+    Check {
+        folder: &'a str,
+    },
 }
 
 fn number_of(word: &str) -> Option<u32> {
     read_number(word.as_bytes())
 }
 
-// A code with one more option, which stands once at most.
-fn with_option(code: CodeAsked, name: &str, number: u32) -> Option<CodeAsked> {
-    let CodeAsked {
-        k,
-        m,
-        helpers,
-        width,
-    } = code;
-    if name == "--helpers" && helpers.is_none() {
-        return Some(CodeAsked {
-            k,
-            m,
-            helpers: Some(number),
-            width,
-        });
-    }
-    if name == "--width" && width.is_none() {
-        return Some(CodeAsked {
-            k,
-            m,
-            helpers,
-            width: Some(number),
-        });
-    }
-    None
-}
-
-fn cut_asked(k: &str, m: &str, options: &[String]) -> Option<Asked> {
-    let bare = CodeAsked {
+// A code without options.
+fn bare_code(k: &str, m: &str) -> Option<CodeAsked> {
+    Some(CodeAsked {
         k: number_of(k)?,
         m: number_of(m)?,
         helpers: None,
         width: None,
+    })
+}
+
+// A code with one more option, which stands once at most.
+fn with_option(code: CodeAsked, name: &str, number: u32) -> Option<CodeAsked> {
+    match name {
+        "--helpers" if code.helpers.is_none() => Some(CodeAsked {
+            helpers: Some(number),
+            ..code
+        }),
+        "--width" if code.width.is_none() => Some(CodeAsked {
+            width: Some(number),
+            ..code
+        }),
+        _ => None,
+    }
+}
+
+// A code with options, each a name and a number.
+fn with_options(bare: CodeAsked, options: &[String]) -> Option<CodeAsked> {
+    let mut code = bare;
+    for option in options.chunks(2) {
+        let [name, number] = option else { return None };
+        code = with_option(code, name.as_str(), number_of(number.as_str())?)?;
+    }
+    Some(code)
+}
+
+fn cut_asked(words: &[String]) -> Option<Asked> {
+    let [k, m, path, folder, options @ ..] = words else {
+        return None;
     };
-    let code = match options {
-        [] => bare,
-        [name, number] => with_option(bare, name.as_str(), number_of(number.as_str())?)?,
-        [name, number, other, second] => {
-            let code = with_option(bare, name.as_str(), number_of(number.as_str())?)?;
-            with_option(code, other.as_str(), number_of(second.as_str())?)?
-        }
-        _ => return None,
-    };
-    Some(Asked::Cut(code))
+    let bare = bare_code(k.as_str(), m.as_str())?;
+    Some(Asked::Cut {
+        code: with_options(bare, options)?,
+        path: path.as_str(),
+        folder: folder.as_str(),
+    })
+}
+
+fn join_asked(words: &[String]) -> Option<Asked> {
+    let [folder, path] = words else { return None };
+    Some(Asked::Join {
+        folder: folder.as_str(),
+        path: path.as_str(),
+    })
+}
+
+fn mend_asked(words: &[String]) -> Option<Asked> {
+    let [folder, number] = words else { return None };
+    Some(Asked::Mend {
+        folder: folder.as_str(),
+        number: number_of(number.as_str())?,
+    })
+}
+
+fn check_asked(words: &[String]) -> Option<Asked> {
+    let [folder] = words else { return None };
+    Some(Asked::Check {
+        folder: folder.as_str(),
+    })
 }
 
 /// What the words after the program's name ask for, if they are a command's.
 pub(crate) fn asked_by(words: &[String]) -> Option<Asked> {
-    match words {
-        [name, k, m, _, _, options @ ..] if name.as_str() == "cut" => {
-            cut_asked(k.as_str(), m.as_str(), options)
-        }
-        [name, _, _] if name.as_str() == "join" => Some(Asked::Join),
-        [name, _, number] if name.as_str() == "mend" => {
-            Some(Asked::Mend(number_of(number.as_str())?))
-        }
-        [name, _] if name.as_str() == "check" => Some(Asked::Check),
+    let (name, rest) = words.split_first()?;
+    match name.as_str() {
+        "cut" => cut_asked(rest),
+        "join" => join_asked(rest),
+        "mend" => mend_asked(rest),
+        "check" => check_asked(rest),
         _ => None,
     }
 }

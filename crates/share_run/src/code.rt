@@ -1,6 +1,14 @@
 //! The code of a cut: the numbers that words give, and those that a file's length gives.
-use crate::words::CodeAsked;
 use clay_aloof::{AloofGeometry, BadAloof};
+
+/// The numbers of a code as far as words give them.
+#[derive(Clone, Copy)]
+pub struct CodeAsked {
+    pub k: u32,
+    pub m: u32,
+    pub helpers: Option<u32>,
+    pub width: Option<u32>,
+}
 
 // The bytes of a page, and the most of a chunk.
 const PAGE: u64 = 4096;
@@ -16,7 +24,7 @@ fn width_for(geometry: AloofGeometry, size: u64) -> u32 {
 }
 
 /// The code for a file of so many bytes. All other chunks help where no number of helpers is given.
-pub(crate) fn code_for(asked: CodeAsked, size: u64) -> Result<AloofGeometry, BadAloof> {
+pub fn code_for(asked: CodeAsked, size: u64) -> Result<AloofGeometry, BadAloof> {
     let CodeAsked {
         k,
         m,
