@@ -1,15 +1,15 @@
 use Rattle.std.proofs.Common.{◌≡◌, ◌^◌, ◌<◌, ℕ, [], get_or, map, Err, ap, sym, subst, ◌∙◌, inl}
-use Rattle.clay_aloof.specs.Shape.{AloofShape}
+use Rattle.clay_aloof.specs.Shape.{AloofShape, all_chunks}
 use Rattle.share_format.specs.Shares.{block_start}
 use Rattle.share_files.specs.Seen.{seen}
 use Rattle.share_files.specs.Put.{PutsBlocks, PutsSome}
 use Rattle.share_files.proofs.EndLemmas.{end_fits}
 use Rattle.share_files.proofs.Faults.{handed_on, on_any_error}
 use Rattle.share_files.proofs.PutLemmas.{puts_nothing, puts_blocks, puts_head, puts_whole, puts_share}
-use Rattle.share_mends.specs.Asked.{OneReadFails}
+use Rattle.share_mends.specs.Asked.{AreAsked, OneReadFails}
 use Rattle.share_mends.specs.Mended.{HaveGood, NamesFirst, IsMended}
 use Rattle.share_mends.specs.declared.fault.MendFault.TheVariants.{ReadFault}
-use Rattle.share_mends.proofs.MendLemmas.{moved}
+use Rattle.share_mends.proofs.MendLemmas.{first_ranges, moved}
 use Rattle.share_mends.proofs.mending.mend.Goals as goal
 
 pub mend_stripes-requires-clause-place : goal.mend_stripes-requires-clause-place
@@ -74,3 +74,29 @@ returns-in-Ok-write_header-clause-made g c =
     (moved (λ a l n. PutsBlocks a (IsMended a l c.args.helpers.now (map (λ s. seen (g.S.SourceAt.given s) (g.S.SourceAt.ends s) (g.S.SourceAt.failed s)) c.mend_stripes.new.sources)) n (g.K.SinkAt.put c.args.sink.now) (g.K.SinkAt.put c.mend_stripes.new.sink))
     _ _ _ _ _ _ (c.in_ok-plan.ensures.geometry ∙ c.geometry.ensures) (c.in_ok-plan.ensures.lost ∙ c.share.ensures) c.stripe_count-stripes.ensures.count c.in-Ok.ensures.put)
     c.in-Ok-write_header.ensures.put
+
+pub returns-in-Ok-write_header-clause-asked : goal.returns-in-Ok-write_header-clause-asked
+returns-in-Ok-write_header-clause-asked g c =
+    moved (λ a l n. AreAsked c.args.helpers.now (first_ranges a l n) (all_chunks a) (map (λ s. seen (g.S.SourceAt.given s) (g.S.SourceAt.ends s) (g.S.SourceAt.failed s)) c.args.sources.now) (map (λ s. seen (g.S.SourceAt.given s) (g.S.SourceAt.ends s) (g.S.SourceAt.failed s)) c.mend_stripes.new.sources))
+    _ _ _ _ _ _ (c.in_ok-plan.ensures.geometry ∙ c.geometry.ensures) (c.in_ok-plan.ensures.lost ∙ c.share.ensures) c.stripe_count-stripes.ensures.count c.in-Ok.ensures.asked
+
+pub returns-in-Err-clause-share : goal.returns-in-Err-clause-share
+returns-in-Err-clause-share g c = λ file words files shows long sum coded of. tt
+
+pub returns-in-Err-clause-good : goal.returns-in-Err-clause-good
+returns-in-Err-clause-good g c = λ files shows. tt
+
+pub returns-in-Err-WriteFault-clause-share : goal.returns-in-Err-WriteFault-clause-share
+returns-in-Err-WriteFault-clause-share g c = λ file words files shows long sum coded of. tt
+
+pub returns-in-Err-WriteFault-clause-good : goal.returns-in-Err-WriteFault-clause-good
+returns-in-Err-WriteFault-clause-good g c = λ files shows. tt
+
+pub returns-clause-share : goal.returns-clause-share
+returns-clause-share g c = λ file words files shows long sum coded of. tt
+
+pub returns-clause-good : goal.returns-clause-good
+returns-clause-good g c = λ files shows. tt
+
+pub returns-in-Ok-write_header-clause-rotten : goal.returns-in-Ok-write_header-clause-rotten
+returns-in-Ok-write_header-clause-rotten g c = λ files shows. tt

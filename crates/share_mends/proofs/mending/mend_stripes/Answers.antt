@@ -1,13 +1,18 @@
-use Rattle.std.proofs.Common.{◌≤◌, ◌+◌, ℕ, refl, subst, ◌∙◌, arith}
+use Rattle.std.proofs.Common.{◌≡◌, ◌≤◌, ◌+◌, ℕ, map, refl, subst, ◌∙◌, arith}
 use Rattle.clay_bytes.specs.Stream.{Rises}
+use Rattle.clay_aloof.specs.Shape.{all_chunks}
 use Rattle.share_format.specs.Blocks.{block_length}
 use Rattle.share_format.specs.Shares.{block_start}
+use Rattle.share_files.specs.Seen.{seen}
+use Rattle.share_files.specs.Put.{PutsBlocks}
 use Rattle.share_files.proofs.FoundLemmas.{place_before}
 use Rattle.share_files.proofs.Faults.{handed_on}
 use Rattle.share_files.proofs.PutLemmas.{puts_none, puts_more, puts_some}
+use Rattle.share_mends.specs.Asked.{AreAsked}
+use Rattle.share_mends.specs.Mended.{HaveGood, IsMended}
 use Rattle.share_mends.specs.declared.fault.MendFault.TheVariants.{ReadFault, WriteFault}
 use Rattle.share_mends.proofs.AskedLemmas.{asked_nothing, no_read_fails, fails_none, fails_one}
-use Rattle.share_mends.proofs.MendLemmas.{asked_stripe, good_more, names_stripe, later}
+use Rattle.share_mends.proofs.MendLemmas.{first_ranges, asked_stripe, good_more, names_stripe, later}
 use Rattle.share_mends.proofs.mending.mend_stripes.Goals as goal
 
 pub loop-stripe-init : goal.loop-stripe-init
@@ -72,3 +77,39 @@ returns-in-Err-clause-write g c = λ e.
 pub returns-in-Err-clause-writes : goal.returns-in-Err-clause-writes
 returns-in-Err-clause-writes g c = λ other.
     c.in-Err.ensures.writes (λ e. other (handed_on c.in-Err.fault WriteFault e)) ∙ c.loop-stripe.invariant.writes
+
+pub returns-in-Err-clause-good : goal.returns-in-Err-clause-good
+returns-in-Err-clause-good g c = λ files shows. tt
+
+pub returns-clause-put : goal.returns-clause-put
+returns-clause-put g c =
+    let a = c.args.plan.now.geometry in
+    let all : c.loop-stripe.stripe ≡ c.args.stripes = omega arith in
+    let P : ℕ → Type 0 =
+    λ n. PutsBlocks a (IsMended a c.args.plan.now.lost c.args.helpers.now (map (λ s. seen (g.S.SourceAt.given s) (g.S.SourceAt.ends s) (g.S.SourceAt.failed s)) c.loop-stripe.sources)) n
+    (g.K.SinkAt.put c.args.sink.now) (g.K.SinkAt.put c.loop-stripe.sink) in
+    subst P all c.loop-stripe.invariant.put
+
+pub returns-clause-good : goal.returns-clause-good
+returns-clause-good g c = λ files shows.
+    let all : c.loop-stripe.stripe ≡ c.args.stripes = omega arith in
+    let P : ℕ → Type 0 = λ n. HaveGood c.args.plan.now.geometry c.args.plan.now.lost c.args.helpers.now files n in
+    subst P all (c.loop-stripe.invariant.good files shows)
+
+pub returns-clause-rotten : goal.returns-clause-rotten
+returns-clause-rotten g c = λ files shows. tt
+
+pub returns-clause-asked : goal.returns-clause-asked
+returns-clause-asked g c =
+    let a = c.args.plan.now.geometry in
+    let all : c.loop-stripe.stripe ≡ c.args.stripes = omega arith in
+    let P : ℕ → Type 0 =
+    λ n. AreAsked c.args.helpers.now (first_ranges a c.args.plan.now.lost n) (all_chunks a) (map (λ s. seen (g.S.SourceAt.given s) (g.S.SourceAt.ends s) (g.S.SourceAt.failed s)) c.args.sources.now)
+    (map (λ s. seen (g.S.SourceAt.given s) (g.S.SourceAt.ends s) (g.S.SourceAt.failed s)) c.loop-stripe.sources) in
+    subst P all c.loop-stripe.invariant.asked
+
+pub returns-clause-reads : goal.returns-clause-reads
+returns-clause-reads g c = λ other. no_read_fails _ _ _ _ _ c.loop-stripe.invariant.asked
+
+pub returns-clause-writes : goal.returns-clause-writes
+returns-clause-writes g c = λ other. c.loop-stripe.invariant.writes
