@@ -1,3 +1,4 @@
 pub mod Puts
 pub mod Racks
 pub mod Inside
+pub mod Tasks

@@ -1,182 +1,122 @@
-//! How long the coders take to encode a stripe.
+//! How long a task takes in one thread, and in as many as there are processors.
 
-ghost use Rattle.std.specs.Prelude.{◌≡◌, ◌*◌, length};
-ghost use Rattle.clay_grid.specs.Shape.{chunk_length, stripe_length};
+ghost use Rattle.clay_bench.specs.Tasks.{Takes};
 
-use crate::least::{BothLeast, Least};
-use crate::words::number_at;
+use crate::least::BothLeast;
+use crate::task::{BYTE, Task, is_possible, pieces_of};
+use crate::words::setting;
+use anyhow::bail;
 use clay_grid::Geometry;
-use clay_lanes::{LaneCoder, Prepared, parity_into};
+use clay_lanes::LaneCoder;
 use clay_model::Coder;
 use clay_par::ParCoder;
-use std::alloc::Global;
+use std::alloc::{AllocError, Global};
+use std::io;
 use std::thread::Threads;
-use std::time::Clock;
+use std::time::{Clock, Duration};
 
-const MIB: u64 = 1 << 20;
+const MIB: u32 = 1 << 20;
 
-const ROUNDS: u32 = 20;
+/// How many stripes are a MiB together: one, where it has more.
+pub fn stripes_of(g: Geometry) -> u32 {
+    MIB.checked_div(g.stripe_len()).unwrap_or(1).max(1)
+}
 
-// Encodes a stripe so many times.
-fn encode<C: Coder, R: Threads + Sync>(
+// Does the task once.
+fn run<C: Coder, R: Threads + Sync>(
     rt: &R,
     alloc: Global,
     coder: &C,
-    geometry: Geometry,
+    task: Task,
+    g: Geometry,
     stripe: &[u8],
-    times: u64,
-) -> anyhow::Result<()>
-    requires { length stripe.now ≡ stripe_length geometry }
+    pieces: &[Option<Vec<u8>>],
+) -> Result<(), AllocError>
+    requires { Takes task g stripe.now pieces.now }
 {
-    for _time in 0..times {
-        let _chunks = coder.encode(rt, alloc, geometry, stripe)?;
+    match task {
+        Task::Encode => {
+            let _ = coder.encode(rt, alloc, g, stripe)?;
+        }
+        Task::Recover(_) => {
+            let _ = coder.recover(rt, alloc, g, pieces)?;
+        }
+        Task::Rebuild => {
+            let _ = coder.rebuild(rt, alloc, g, 0, pieces)?;
+        }
     }
     Ok(())
 }
 
-// The least time of the rounds. In each a stripe is encoded so many times.
-fn least_time<C: Coder, R: Threads + Sync + Clock>(
+// How long the task takes of a MiB.
+fn timed<C: Coder, R: Threads + Sync + Clock>(
     rt: &R,
     alloc: Global,
     coder: &C,
-    geometry: Geometry,
+    task: Task,
+    g: Geometry,
     stripe: &[u8],
-    times: u64,
+    pieces: &[Option<Vec<u8>>],
+) -> io::Result<Duration>
+    requires { Takes task g stripe.now pieces.now }
+{
+    let begun = rt.monotonic()?;
+    for _time in 0..stripes_of(g) {
+        run(rt, alloc, coder, task, g, stripe, pieces)?;
+    }
+    Ok(rt.monotonic()?.saturating_sub(begun))
+}
+
+// The least times of the rounds, one of each kind in turn.
+fn time_rounds<R: Threads + Sync + Clock>(
+    rt: &R,
+    alloc: Global,
+    task: Task,
+    g: Geometry,
+    stripe: &[u8],
+    pieces: &[Option<Vec<u8>>],
     rounds: u32,
-) -> anyhow::Result<Least>
-    requires { length stripe.now ≡ stripe_length geometry }
+) -> io::Result<BothLeast>
+    requires { Takes task g stripe.now pieces.now }
 {
-    let mut least = Least::new();
-    for _round in 0..rounds {
-        let begun = rt.monotonic()?;
-        encode(rt, alloc, coder, geometry, stripe, times)?;
-        least.note(rt.monotonic()?.saturating_sub(begun));
-    }
-    Ok(least)
-}
-
-// Prints it, in nanoseconds.
-fn tell<C: Coder, R: Threads + Sync + Clock + Print>(
-    rt: &R,
-    alloc: Global,
-    coder: &C,
-    geometry: Geometry,
-    times: u64,
-    rounds: u32,
-) -> anyhow::Result<()> {
-    let stripe = vec![in alloc; 0x5au8; geometry.stripe_len() as usize]?;
-    let least = least_time(rt, alloc, coder, geometry, &stripe, times, rounds)?;
-    let nanoseconds = least.nanoseconds();
-    println!(rt; "{nanoseconds}")?;
-    Ok(())
-}
-
-/// The coder of one thread, for a MiB at 8 + 4 in subchunks of a width.
-pub fn time_one_thread<R: Threads + Sync + Clock + Print>(
-    rt: &R,
-    alloc: Global,
-    words: &[String],
-) -> anyhow::Result<()> {
-    let geometry = Geometry::new(8, 4, number_at(words, 0)?)?;
-    let times = MIB / u64::from(geometry.stripe_len()).max(1);
-    tell(rt, alloc, &LaneCoder, geometry, times, ROUNDS)
-}
-
-/// The coder of several threads, for one stripe.
-pub fn time_threads<R: Threads + Sync + Clock + Print>(
-    rt: &R,
-    alloc: Global,
-    words: &[String],
-) -> anyhow::Result<()> {
-    let (k, m) = (number_at(words, 0)?, number_at(words, 1)?);
-    let geometry = Geometry::new(k, m, number_at(words, 2)?)?;
-    tell(rt, alloc, &ParCoder, geometry, 1, number_at(words, 3)?)
-}
-
-// Writes a stripe's parity chunks so many times, with the factors made in each call.
-fn write_plain(
-    alloc: Global,
-    geometry: Geometry,
-    stripe: &[u8],
-    chunks: &mut [u8],
-    times: u64,
-) -> anyhow::Result<()>
-    requires stripe { length stripe.now ≡ stripe_length geometry }
-    requires chunks { length chunks.old ≡ geometry.parity_count * chunk_length geometry }
-{
-    for _time in 0..times {
-        parity_into(alloc, geometry, stripe, chunks)?;
-    }
-    Ok(())
-}
-
-// The same with a code that is prepared.
-fn write_prepared(
-    alloc: Global,
-    prepared: &Prepared,
-    stripe: &[u8],
-    chunks: &mut [u8],
-    times: u64,
-) -> anyhow::Result<()>
-    requires stripe { length stripe.now ≡ stripe_length prepared.now }
-    requires chunks { length chunks.old ≡ prepared.now.parity_count * chunk_length prepared.now }
-{
-    for _time in 0..times {
-        prepared.parity_into(alloc, stripe, chunks)?;
-    }
-    Ok(())
-}
-
-// Times rounds of a plain writing and of one that is prepared.
-fn time_rounds(
-    rt: &impl Clock,
-    alloc: Global,
-    prepared: &Prepared,
-    stripe: &[u8],
-    chunks: &mut [u8],
-    times: u64,
-) -> anyhow::Result<BothLeast>
-    requires stripe { length stripe.now ≡ stripe_length prepared.now }
-    requires chunks { length chunks.old ≡ prepared.now.parity_count * chunk_length prepared.now }
-{
-    let geometry = prepared.geometry();
     let mut least = BothLeast::new();
-    for _round in 0..ROUNDS {
-        let begun = rt.monotonic()?;
-        write_plain(alloc, geometry, stripe, chunks, times)?;
-        let between = rt.monotonic()?;
-        write_prepared(alloc, prepared, stripe, chunks, times)?;
-        let ended = rt.monotonic()?;
-        least.note(between.saturating_sub(begun), ended.saturating_sub(between));
+    for _round in 0..rounds {
+        let one = timed(rt, alloc, &LaneCoder, task, g, stripe, pieces)?;
+        least.note(one, timed(rt, alloc, &ParCoder, task, g, stripe, pieces)?);
     }
     Ok(least)
 }
 
-fn time_stripe(
-    rt: &impl Clock,
-    alloc: Global,
-    prepared: &Prepared,
-    stripe: &[u8],
-) -> anyhow::Result<BothLeast>
-    requires stripe { length stripe.now ≡ stripe_length prepared.now }
-{
-    let geometry = prepared.geometry();
-    let times = MIB / u64::from(geometry.stripe_len()).max(1);
-    let mut chunks = vec![in alloc; 0u8; geometry.m() as usize * geometry.chunk_len() as usize]?;
-    time_rounds(rt, alloc, prepared, stripe, &mut chunks, times)
-}
-
-fn time_code(rt: &impl Clock, alloc: Global, prepared: &Prepared) -> anyhow::Result<BothLeast> {
-    let stripe = vec![in alloc; 0x5au8; prepared.geometry().stripe_len() as usize]?;
-    time_stripe(rt, alloc, prepared, &stripe)
-}
-
-/// Stripes of a MiB together at 8 + 4 in subchunks of a width, by the plain call and by a code that is prepared, in alternating rounds.
-pub fn time_prepared<R: Clock + Print>(
+// The same with a stripe and pieces of its own, or none where too many chunks are missing.
+fn time_stripe<R: Threads + Sync + Clock>(
     rt: &R,
     alloc: Global,
+    task: Task,
+    g: Geometry,
+    rounds: u32,
+) -> io::Result<Option<BothLeast>> {
+    let stripe = vec![in alloc; BYTE; g.stripe_len() as usize]?;
+    let pieces = pieces_of(alloc, g, task)?;
+    if !is_possible(g, task, &stripe, &pieces) {
+        return Ok(None);
+    }
+    Ok(Some(time_rounds(rt, alloc, task, g, &stripe, &pieces, rounds)?))
+}
+
+/// A task with a name, of stripes of a MiB together or of one that has more.
+pub fn time_task<R: Threads + Sync + Clock + Print>(
+    rt: &R,
+    alloc: Global,
+    name: &str,
     words: &[String],
 ) -> anyhow::Result<()> {
-    let geometry = Geometry::new(8, 4, number_at(words, 0)?)?;
-    time_code(rt, alloc, &Prepared::new(alloc, geometry)?)?.tell(rt)
+    let Some(task) = Task::named(name) else {
+        bail!("there is no such measure");
+    };
+    let (g, rounds) = setting(words)?;
+    let Some(least) = time_stripe(rt, alloc, task, g, rounds)? else {
+        bail!("too many chunks are missing");
+    };
+    least.tell(rt)?;
+    Ok(())
 }

@@ -4,11 +4,24 @@ use crate::steps::{Measured, prepare, work};
 use crate::words::number_at;
 use anyhow::bail;
 use clay_grid::Geometry;
+use dir_walks::caller::Refusal;
 use dir_walks::store::Store;
 use std::alloc::Global;
 use version_seal::Book;
 
-// Makes the steps in a directory of this size, and prints what they leave.
+// Makes the steps in a directory of this size: how many versions were swept.
+fn make(
+    alloc: Global,
+    store: &mut Store<'_>,
+    measured: Measured,
+    size: u32,
+    steps: u32,
+) -> Result<u64, Refusal> {
+    prepare(alloc, store, measured, size)?;
+    work(alloc, store, measured, size, steps)
+}
+
+// Makes the steps, and prints what they leave.
 fn tell_steps(
     rt: &impl Print,
     alloc: Global,
@@ -17,8 +30,9 @@ fn tell_steps(
     size: u32,
     steps: u32,
 ) -> anyhow::Result<()> {
-    prepare(alloc, store, measured, size)?;
-    let swept = work(alloc, store, measured, size, steps)?;
+    let Ok(swept) = make(alloc, store, measured, size, steps) else {
+        bail!("a step isn't made");
+    };
     let directory = store.directory();
     let objects = directory.objects();
     let points = directory.points();
@@ -42,20 +56,19 @@ fn tell_anew(
     told
 }
 
-/// The words come three by three: a kind of step, how large the directory is before, and how many
-/// steps are made.
+// The words are a kind of step, how large the directory is before, and how many steps are made.
+fn tell_kind(rt: &impl Print, alloc: Global, words: &[String]) -> anyhow::Result<()> {
+    let Some(measured) = Measured::named(words) else {
+        bail!("there is no such kind of step");
+    };
+    let (size, steps) = (number_at(words, 1)?, number_at(words, 2)?);
+    tell_anew(rt, alloc, measured, size, steps)
+}
+
+/// The words come three by three.
 pub fn make_steps(rt: &impl Print, alloc: Global, words: &[String]) -> anyhow::Result<()> {
     for three in words.chunks(3) {
-        let Some(measured) = Measured::named(three) else {
-            bail!("there is no such kind of step");
-        };
-        tell_anew(
-            rt,
-            alloc,
-            measured,
-            number_at(three, 1)?,
-            number_at(three, 2)?,
-        )?;
+        tell_kind(rt, alloc, three)?;
     }
     Ok(())
 }

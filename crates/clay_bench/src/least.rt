@@ -1,5 +1,6 @@
 //! The shortest of the times that were measured.
 
+use std::io;
 use std::time::Duration;
 
 /// The least of some times.
@@ -42,9 +43,8 @@ impl BothLeast {
     }
 
     /// Prints both, in nanoseconds.
-    pub fn tell(self, rt: &impl Print) -> anyhow::Result<()> {
+    pub fn tell(self, rt: &impl Print) -> io::Result<()> {
         let (first, second) = (self.first.nanoseconds(), self.second.nanoseconds());
-        println!(rt; "{first} {second}")?;
-        Ok(())
+        println!(rt; "{first} {second}")
     }
 }

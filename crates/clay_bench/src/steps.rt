@@ -1,8 +1,7 @@
 //! The steps that are timed.
 
-use crate::calls::{delete, put, read, stat, write};
-use anyhow::bail;
-use dir_walks::caller::Step;
+use crate::calls::{Kind, Wanted, call};
+use dir_walks::caller::{Refusal, Step};
 use dir_walks::store::Store;
 use std::alloc::Global;
 use store_map::Call;
@@ -18,7 +17,7 @@ pub enum Measured {
     Append,
     /// A put of all stripes.
     Put,
-    /// A delete of the oldest object, which is put again.
+    /// A delete of the oldest object, and in turn a put of it as the newest.
     Renew,
     Stat,
 }
@@ -38,23 +37,18 @@ impl Measured {
     }
 }
 
-fn step(store: &mut Store<'_>, step: Step<'_>) -> anyhow::Result<()> {
-    match store.first(step) {
-        Ok(_made) => Ok(()),
-        Err(refusal) => bail!("a step isn't made: {refusal:?}"),
-    }
-}
-
 // Makes a call to its end. Each call has one point, so that the count of points is an unused number.
-fn make(store: &mut Store<'_>, call: &Call) -> anyhow::Result<()> {
-    let number = u32::try_from(store.directory().points())?;
-    step(store, Step::Look { number, call })?;
+fn make(store: &mut Store<'_>, call: &Call) -> Result<(), Refusal> {
+    let Ok(number) = u32::try_from(store.directory().points()) else {
+        return Err(Refusal::NotNow);
+    };
+    store.first(Step::Look { number, call })?;
     match call {
         Call::Put { .. } | Call::Write { .. } => {
-            step(store, Step::Draw)?;
-            step(store, Step::Commit)
+            store.first(Step::Draw)?;
+            store.first(Step::Commit)
         }
-        Call::Get { .. } | Call::ReadAt { .. } => step(store, Step::End),
+        Call::Get { .. } | Call::ReadAt { .. } => store.first(Step::End),
         Call::Stat { .. } | Call::Delete { .. } => Ok(()),
     }
 }
@@ -73,7 +67,7 @@ fn sweep(store: &mut Store<'_>) -> u64 {
 }
 
 // A call so many times, swept after each.
-fn repeat(store: &mut Store<'_>, call: &Call, steps: u32) -> anyhow::Result<u64> {
+fn repeat(store: &mut Store<'_>, call: &Call, steps: u32) -> Result<u64, Refusal> {
     let mut swept: u64 = 0;
     for _ in 0..steps {
         make(store, call)?;
@@ -82,49 +76,71 @@ fn repeat(store: &mut Store<'_>, call: &Call, steps: u32) -> anyhow::Result<u64>
     Ok(swept)
 }
 
-// A call so many times, which isn't kept: what owns a call is dear to prove.
-fn repeat_new(store: &mut Store<'_>, call: Call, steps: u32) -> anyhow::Result<u64> {
+// The same of a call that is made for it, once for all its steps.
+fn repeat_new(
+    alloc: Global,
+    store: &mut Store<'_>,
+    wanted: Wanted,
+    steps: u32,
+) -> Result<u64, Refusal> {
+    let call = call(alloc, wanted)?;
     repeat(store, &call, steps)
 }
 
-// So many writes of a stripe, each behind the object's end.
-fn append(alloc: Global, store: &mut Store<'_>, stripes: u32, steps: u32) -> anyhow::Result<u64> {
+// The call of a step: a write behind the end, or of the oldest object, as its deletes and puts take turns.
+fn next(measured: Measured, size: u32, step: u32) -> Wanted {
+    let Measured::Renew = measured else {
+        return Wanted {
+            kind: Kind::Write,
+            object: 0,
+            stripes: size.saturating_add(step),
+        };
+    };
+    Wanted {
+        kind: if step % 2 == 0 {
+            Kind::Delete
+        } else {
+            Kind::Put
+        },
+        object: (step / 2).checked_rem(size).unwrap_or(0),
+        stripes: 1,
+    }
+}
+
+// So many steps, each with a call of its own.
+fn series(
+    alloc: Global,
+    store: &mut Store<'_>,
+    measured: Measured,
+    size: u32,
+    steps: u32,
+) -> Result<u64, Refusal> {
     let mut swept: u64 = 0;
     for step in 0..steps {
-        let call = write(alloc, 0, stripes.saturating_add(step))?;
-        swept = swept.saturating_add(repeat_new(store, call, 1)?);
+        swept = swept.saturating_add(repeat_new(alloc, store, next(measured, size, step), 1)?);
     }
     Ok(swept)
 }
 
 // So many objects of a stripe.
-fn put_all(alloc: Global, store: &mut Store<'_>, objects: u32) -> anyhow::Result<u64> {
+fn put_all(alloc: Global, store: &mut Store<'_>, objects: u32) -> Result<u64, Refusal> {
     for object in 0..objects {
-        repeat_new(store, put(alloc, object, 1)?, 1)?;
+        let put = Wanted {
+            kind: Kind::Put,
+            object,
+            stripes: 1,
+        };
+        repeat_new(alloc, store, put, 1)?;
     }
     Ok(0)
 }
 
-// So many times the oldest object is deleted and put again, as the newest.
-fn renew(alloc: Global, store: &mut Store<'_>, objects: u32, steps: u32) -> anyhow::Result<u64> {
-    let mut swept: u64 = 0;
-    for step in 0..steps {
-        let Some(oldest) = step.checked_rem(objects) else {
-            bail!("there are no objects");
-        };
-        swept = swept.saturating_add(repeat_new(store, delete(alloc, oldest)?, 1)?);
-        swept = swept.saturating_add(repeat_new(store, put(alloc, oldest, 1)?, 1)?);
-    }
-    Ok(swept)
-}
-
-// The call that is repeated, of an object of so many stripes.
-fn repeated(alloc: Global, measured: Measured, stripes: u32) -> anyhow::Result<Call> {
-    match measured {
-        Measured::Write => write(alloc, 0, stripes / 2),
-        Measured::Read => read(alloc, 0, stripes / 2),
-        Measured::Stat => stat(alloc, 0),
-        _ => put(alloc, 0, stripes),
+// A call of the only object.
+fn only(kind: Kind, stripes: u32) -> Wanted {
+    Wanted {
+        kind,
+        object: 0,
+        stripes,
     }
 }
 
@@ -134,11 +150,21 @@ pub fn prepare(
     store: &mut Store<'_>,
     measured: Measured,
     size: u32,
-) -> anyhow::Result<u64> {
+) -> Result<u64, Refusal> {
     match measured {
         Measured::Renew => put_all(alloc, store, size),
-        Measured::Stat => repeat_new(store, stat(alloc, 0)?, size),
-        _ => repeat_new(store, put(alloc, 0, size)?, 1),
+        Measured::Stat => repeat_new(alloc, store, only(Kind::Stat, 0), size),
+        _ => repeat_new(alloc, store, only(Kind::Put, size), 1),
+    }
+}
+
+// The call that is repeated, of an object of so many stripes.
+fn repeated(measured: Measured, stripes: u32) -> Wanted {
+    match measured {
+        Measured::Write => only(Kind::Write, stripes / 2),
+        Measured::Read => only(Kind::Read, stripes / 2),
+        Measured::Stat => only(Kind::Stat, 0),
+        _ => only(Kind::Put, stripes),
     }
 }
 
@@ -149,10 +175,10 @@ pub fn work(
     measured: Measured,
     size: u32,
     steps: u32,
-) -> anyhow::Result<u64> {
+) -> Result<u64, Refusal> {
     match measured {
-        Measured::Append => append(alloc, store, size, steps),
-        Measured::Renew => renew(alloc, store, size, steps),
-        _ => repeat_new(store, repeated(alloc, measured, size)?, steps),
+        Measured::Append => series(alloc, store, measured, size, steps),
+        Measured::Renew => series(alloc, store, measured, size, steps.saturating_mul(2)),
+        _ => repeat_new(alloc, store, repeated(measured, size), steps),
     }
 }

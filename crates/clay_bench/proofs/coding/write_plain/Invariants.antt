@@ -1,6 +1,0 @@
-use Rattle.std.proofs.Common.{◌≡◌, ◌*◌, length}
-use Rattle.clay_grid.specs.Shape.{chunk_length}
-use Rattle.clay_bench.proofs.coding.write_plain.Given as goal
-
-abbrev pub invariant-loop-time : goal.invariant-loop-time
-invariant-loop-time l = length l.chunks ≡ l.fn.geometry.parity_count * chunk_length l.fn.geometry
