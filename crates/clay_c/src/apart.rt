@@ -23,36 +23,24 @@ fn are_long(slices: &[&[u8]], len: usize) -> bool
     slices.iter().all(|slice| slice.len() == len)
 }
 
-// Whether each slice has the bytes of a part.
-fn are_parts(g: Geometry, parts: &[&[u8]]) -> bool
-    ensures { IsTrue result ↔ HaveBytes (part_length g) (map (λ part. part.now) parts.now) }
+// Whether these are so many slices of so many bytes.
+fn are_slices(slices: &[&[u8]], count: usize, len: u32) -> bool
+    ensures { IsTrue result ↔ ((length (map (λ slice. slice.now) slices.now) ≡ count) × HaveBytes len (map (λ slice. slice.now) slices.now)) }
 {
-    are_long(parts, part_len(g) as usize)
-}
-
-// How many slices there are.
-fn slice_count(slices: &[&[u8]]) -> usize
-    ensures { result ≡ length (map (λ slice. slice.now) slices.now) }
-{
-    slices.len()
+    if slices.len() != count {
+        return false;
+    }
+    are_long(slices, len as usize)
 }
 
 // Whether these are parts of all but one chunk, and there is room for that one.
 fn parts_fit(g: Geometry, parts: &[&[u8]], chunk: &[u8]) -> bool
     ensures { IsTrue result ↔ PartSlicesFit g (map (λ part. part.now) parts.now) chunk.now }
 {
-    let others = g.n() as usize - 1;
-    if slice_count(parts) != others || chunk.len() != g.chunk_len() as usize {
+    if chunk.len() != g.chunk_len() as usize {
         return false;
     }
-    are_parts(g, parts)
-}
-
-// Whether each slice has the bytes of a chunk.
-fn are_chunks(g: Geometry, chunks: &[&[u8]]) -> bool
-    ensures { IsTrue result ↔ HaveBytes (chunk_length g) (map (λ chunk. chunk.now) chunks.now) }
-{
-    are_long(chunks, g.chunk_len() as usize)
+    are_slices(parts, g.n() as usize - 1, part_len(g))
 }
 
 // Whether each has room for so many bytes.
@@ -62,18 +50,14 @@ fn have_room(rooms: &[&mut [u8]], len: usize) -> bool
     rooms.iter().all(|room| room.len() == len)
 }
 
-// Whether each has room for a chunk.
-fn are_rooms(g: Geometry, rooms: &[&mut [u8]]) -> bool
-    ensures { IsTrue result ↔ HaveBytes (chunk_length g) (map (λ room. room.now) rooms.now) }
+// Whether there is room in so many slices for so many bytes each.
+fn are_rooms(rooms: &[&mut [u8]], count: usize, len: u32) -> bool
+    ensures { IsTrue result ↔ ((length (map (λ room. room.now) rooms.now) ≡ count) × HaveBytes len (map (λ room. room.now) rooms.now)) }
 {
-    have_room(rooms, g.chunk_len() as usize)
-}
-
-// How many of these there are.
-fn room_count(rooms: &[&mut [u8]]) -> usize
-    ensures { result ≡ length (map (λ room. room.now) rooms.now) }
-{
-    rooms.len()
+    if rooms.len() != count {
+        return false;
+    }
+    have_room(rooms, len as usize)
 }
 
 // Whether these are the chunks that are there, and there is room for the others.
@@ -85,32 +69,20 @@ fn chunks_fit(g: Geometry, present: &[u8], chunks: &[&[u8]], missing: &[&mut [u8
     if present.len() != all {
         return false;
     }
-    if slice_count(chunks) != all.saturating_sub(lost) {
+    if !are_slices(chunks, all.saturating_sub(lost), g.chunk_len()) {
         return false;
     }
-    if room_count(missing) != lost {
-        return false;
-    }
-    if !are_chunks(g, chunks) {
-        return false;
-    }
-    are_rooms(g, missing)
+    are_rooms(missing, lost, g.chunk_len())
 }
 
 // Whether these are the data chunks, and there is room for the parity chunks.
 fn data_fits(g: Geometry, chunks: &[&[u8]], parity: &[&mut [u8]]) -> bool
     ensures { IsTrue result ↔ DataSlicesFit g (map (λ chunk. chunk.now) chunks.now) (map (λ room. room.now) parity.now) }
 {
-    if slice_count(chunks) != g.k() as usize {
+    if !are_slices(chunks, g.k() as usize, g.chunk_len()) {
         return false;
     }
-    if room_count(parity) != g.m() as usize {
-        return false;
-    }
-    if !are_chunks(g, chunks) {
-        return false;
-    }
-    are_rooms(g, parity)
+    are_rooms(parity, g.m() as usize, g.chunk_len())
 }
 
 /// Writes the parity chunks of a stripe, each to a slice of its own. `chunks` has the data chunks, each a slice of its own, and `parity` a

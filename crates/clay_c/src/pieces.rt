@@ -1,16 +1,6 @@
 //! Where pieces of one length start that stand one behind another in a caller's bytes.
 ghost use Rattle.std.specs.Prelude.{◌≡◌, ◌*◌, ◌^◌, ◌<◌, cond, Some, None};
 
-/// Where a piece starts, or none where it is gone.
-pub fn start_unless(gone: bool, start: usize) -> Option<usize>
-    ensures { result ≡ cond gone None (Some start) }
-{
-    if gone {
-        return None;
-    }
-    Some(start)
-}
-
 /// Where the piece of `len` bytes at a place starts, or none where it is gone.
 pub fn piece_start(gone: bool, place: usize, len: u32) -> Option<usize>
     requires { place < 2 ^ 32 }

@@ -1,12 +1,12 @@
 //! A lost chunk, written to a caller's bytes.
-ghost use Rattle.std.specs.Prelude.{◌≡◌, ◌-◌, ◌*◌, ◌<◌, eqb, map, length, IfOk, OnOk, OnErr};
+ghost use Rattle.std.specs.Prelude.{◌≡◌, ◌-◌, ◌*◌, ◌^◌, ◌<◌, eqb, map, length, IfOk, OnOk, OnErr};
 ghost use Rattle.clay_grid.specs.Shape.{chunk_count, chunk_length};
 ghost use Rattle.clay_model.specs.RepairParts.{part_length};
 ghost use Rattle.clay_c.specs.Calls.{place_among_others, Rebuilds};
 ghost use Rattle.clay_c.specs.Pieces.{starts_of};
 ghost use Rattle.clay_c.specs.Apart.{PartSlicesFit, RebuildsApart};
 
-use crate::pieces::start_unless;
+use crate::pieces::piece_start;
 use clay_grid::Geometry;
 use clay_lanes::{ChunkView, rebuild_into};
 use std::alloc::{AllocError, Global};
@@ -20,18 +20,11 @@ pub fn part_len(g: Geometry) -> u32
 
 // The place of a chunk among all but the lost one.
 fn place_among_others(lost: u32, c: u32) -> usize
-    ensures { result ≡ place_among_others lost c }
+    ensures value { result ≡ place_among_others lost c }
+    ensures below { result < 2 ^ 32 }
 {
     let place = if c < lost { c } else { c.saturating_sub(1) };
     place as usize
-}
-
-// Where the part of a chunk starts.
-fn part_start(lost: u32, c: u32, len: u32) -> usize
-    ensures { result ≡ place_among_others lost c * len }
-{
-    let start = place_among_others(lost, c) * len as usize;
-    start
 }
 
 // Where the part of each chunk but the lost one starts, where parts have this length.
@@ -45,8 +38,8 @@ fn part_starts(
 {
     let mut starts = Vec::with_capacity(alloc, g.n() as usize)?;
     for c in 0..g.n() {
-        let start = part_start(lost, c, len);
-        starts.push(start_unless(c == lost, start))?;
+        let place = place_among_others(lost, c);
+        starts.push(piece_start(c == lost, place, len))?;
     }
     Ok(starts)
 }

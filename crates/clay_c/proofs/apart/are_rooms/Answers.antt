@@ -1,18 +1,16 @@
-use Rattle.std.proofs.Common.{◌≡◌, ℕ, List, All, MutBor, length, sym, subst}
+use Rattle.std.proofs.Common.{◌≡◌, ℕ, List, MutBor, length, sym, ◌∙◌, true≢false}
+use Rattle.std.proofs.lemmas.List.{length-map}
 use Rattle.std.proofs.lemmas.List.Elements.{All-map}
-use Rattle.clay_grid.specs.Shape.{chunk_length}
 use Rattle.lost_read.proofs.ReadLaws.{all_from_map}
 use Rattle.clay_c.proofs.apart.are_rooms.Goals as goal
 
+pub returns-then-rooms-count : goal.returns-then-rooms-count
+returns-then-rooms-count c = (λ yes. absurd (true≢false (sym yes)), λ h. absurd (c.if-rooms-count.true (sym (length-map c.args.rooms.now (λ (room : MutBor (List ℕ)). room.now)) ∙ h.0)))
+
 pub returns : goal.returns
 returns c =
-    let len : ℕ = chunk_length c.args.g in
-    let rooms : List (MutBor (List ℕ)) = c.args.rooms.now in (
-      λ yes.
-          All-map (λ (bytes : List ℕ). length bytes ≡ len) (λ (room : MutBor (List ℕ)). room.now) rooms
-          (subst (λ n. All (λ (room : MutBor (List ℕ)). length room.now ≡ n) rooms) c.chunk_len.ensures.value (c.have_room.ensures.0 yes)),
-      λ each.
-          c.have_room.ensures.1
-          (subst (λ n. All (λ (room : MutBor (List ℕ)). length room.now ≡ n) rooms) (sym c.chunk_len.ensures.value)
-          (all_from_map (λ (bytes : List ℕ). length bytes ≡ len) (λ (room : MutBor (List ℕ)). room.now) rooms each)),
+    let long : List ℕ → Type 0 = λ bytes. length bytes ≡ c.args.len in
+    let bytes : MutBor (List ℕ) → List ℕ = λ room. room.now in (
+      λ yes. (length-map c.args.rooms.now bytes ∙ c.if-rooms-count.false, All-map long bytes c.args.rooms.now (c.have_room.ensures.0 yes)),
+      λ h. c.have_room.ensures.1 (all_from_map long bytes c.args.rooms.now h.1),
     )

@@ -6,5 +6,5 @@ use Rattle.clay_c.proofs.rebuilding.part_starts.Goals as goal
 pub loop-c-preserved : goal.loop-c-preserved
 loop-c-preserved c =
     c.in_ok-push.ensures.items
-    ∙ starts_more (λ k. cond (eqb k c.args.lost) None (Some (place_among_others c.args.lost k * c.args.len))) c.loop-c.starts.items c.start_unless.result c.loop-c.c
-    (c.start_unless.ensures ∙ ap (λ s. cond (eqb c.loop-c.c c.args.lost) None (Some s)) c.part_start-start.ensures) c.loop-c.invariant
+    ∙ starts_more (λ k. cond (eqb k c.args.lost) None (Some (place_among_others c.args.lost k * c.args.len))) c.loop-c.starts.items c.piece_start.result c.loop-c.c
+    (c.piece_start.ensures ∙ ap (λ p. cond (eqb c.loop-c.c c.args.lost) None (Some (p * c.args.len))) c.place_among_others-place.ensures.value) c.loop-c.invariant
