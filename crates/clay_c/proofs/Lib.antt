@@ -1,3 +1,4 @@
+pub mod Refused
 pub mod Laying
 pub mod Taking
 pub mod Recovering

@@ -1,5 +1,5 @@
 //! The calls for codes of which a rebuild has fewer helpers than there are other chunks.
-ghost use Rattle.std.specs.Prelude.{◌≡◌, ◌≢◌, ◌+◌, ◌<◌, ◌↔◌, MatchOption};
+ghost use Rattle.std.specs.Prelude.{◌≡◌, ◌≢◌, ◌+◌, ◌<◌, ◌↔◌, MatchOption, IsTrue};
 ghost use Rattle.clay_aloof.specs.Shape.{aloof_of};
 ghost use Rattle.clay_aloof.specs.Limits.{IsAloof};
 ghost use Rattle.clay_aloof.specs.Repair.{aloof_layers_of};
@@ -23,6 +23,39 @@ fn geometry(k: u32, m: u32, d: u32, w: u32) -> Option<AloofGeometry>
     ensures { MatchOption result (IsAloof (aloof_of k m d w) → ⊥) (λ g. (g ≡ aloof_of k m d w) × IsAloof (aloof_of k m d w)) }
 {
     AloofGeometry::new(k, m, d, w).ok()
+}
+
+// Whether these are a stripe, and room for its parity chunks.
+fn parity_fits(g: AloofGeometry, stripe: &[u8], parity: &[u8]) -> bool
+    ensures { IsTrue result ↔ AloofParityFits g stripe.now parity.now }
+{
+    if stripe.len() != g.stripe_len() as usize {
+        return false;
+    }
+    parity.len() == g.m() as usize * g.chunk_len() as usize
+}
+
+// Whether these are a mark for each chunk, and as many chunks.
+fn chunks_fit(g: AloofGeometry, present: &[u8], chunks: &[u8]) -> bool
+    ensures { IsTrue result ↔ AloofChunksFit g present.now chunks.now }
+{
+    if present.len() != g.n() as usize {
+        return false;
+    }
+    chunks.len() == g.n() as usize * g.chunk_len() as usize
+}
+
+// Whether these are a mark for each chunk, a part for each helper, and room for a chunk.
+fn parts_fit(g: AloofGeometry, helpers: &[u8], parts: &[u8], chunk: &[u8]) -> bool
+    ensures { IsTrue result ↔ MarkedPartsFit g helpers.now parts.now chunk.now }
+{
+    if helpers.len() != g.n() as usize {
+        return false;
+    }
+    if parts.len() != g.d() as usize * g.part_len() as usize {
+        return false;
+    }
+    chunk.len() == g.chunk_len() as usize
 }
 
 /// Writes the numbers of the code of `k` data chunks, `m` parity chunks, `d` helpers of a rebuild and subchunks of `w` bytes, or ends with
@@ -79,9 +112,7 @@ pub extern "C" fn clay_parity_with_helpers(
     let Some(g) = geometry(k, m, d, w) else {
         return BAD_GEOMETRY;
     };
-    if stripe.len() != g.stripe_len() as usize
-        || parity.len() != g.m() as usize * g.chunk_len() as usize
-    {
+    if !parity_fits(g, stripe, parity) {
         return BAD_LENGTH;
     }
     match write_parity(alloc, g, stripe, parity) {
@@ -114,7 +145,7 @@ pub extern "C" fn clay_recover_with_helpers(
     let Some(g) = geometry(k, m, d, w) else {
         return BAD_GEOMETRY;
     };
-    if present.len() != g.n() as usize || chunks.len() != g.n() as usize * g.chunk_len() as usize {
+    if !chunks_fit(g, present, chunks) {
         return BAD_LENGTH;
     }
     if missing_count(present) > g.m() as usize {
@@ -193,10 +224,7 @@ pub extern "C" fn clay_rebuild_with_helpers(
     if lost >= g.n() {
         return BAD_CHUNK;
     }
-    if helpers.len() != g.n() as usize
-        || parts.len() != g.d() as usize * g.part_len() as usize
-        || chunk.len() != g.chunk_len() as usize
-    {
+    if !parts_fit(g, helpers, parts, chunk) {
         return BAD_LENGTH;
     }
     if !marks_fit(g, lost, helpers) {

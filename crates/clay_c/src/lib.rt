@@ -2,7 +2,7 @@
 //! nothing where it doesn't end with `DONE`.
 #![tactic(auto)]
 
-ghost use Rattle.std.specs.Prelude.{◌≡◌, ◌≢◌, ◌+◌, ◌<◌, ◌↔◌, MatchOption};
+ghost use Rattle.std.specs.Prelude.{◌≡◌, ◌≢◌, ◌+◌, ◌<◌, ◌↔◌, MatchOption, IsTrue};
 ghost use Rattle.clay_grid.specs.Shape.{shape_of};
 ghost use Rattle.clay_grid.specs.Limits.{IsGeometry};
 ghost use Rattle.clay_grid.specs.Repair.{repair_layers_of};
@@ -61,6 +61,37 @@ fn geometry(k: u32, m: u32, w: u32) -> Option<Geometry>
     ensures { MatchOption result (IsGeometry (shape_of k m w) → ⊥) (λ g. (g ≡ shape_of k m w) × IsGeometry (shape_of k m w)) }
 {
     Geometry::new(k, m, w).ok()
+}
+
+// Whether these are a stripe, and room for its parity chunks.
+fn parity_fits(g: Geometry, stripe: &[u8], parity: &[u8]) -> bool
+    ensures { IsTrue result ↔ ParityFits g stripe.now parity.now }
+{
+    if stripe.len() != g.stripe_len() as usize {
+        return false;
+    }
+    parity.len() == g.m() as usize * g.chunk_len() as usize
+}
+
+// Whether these are a mark for each chunk, and as many chunks.
+fn chunks_fit(g: Geometry, present: &[u8], chunks: &[u8]) -> bool
+    ensures { IsTrue result ↔ ChunksFit g present.now chunks.now }
+{
+    if present.len() != g.n() as usize {
+        return false;
+    }
+    chunks.len() == g.n() as usize * g.chunk_len() as usize
+}
+
+// Whether these are parts of all but one chunk, and room for that one.
+fn parts_fit(g: Geometry, parts: &[u8], chunk: &[u8]) -> bool
+    ensures { IsTrue result ↔ PartsFit g parts.now chunk.now }
+{
+    let others = g.n() as usize - 1;
+    if parts.len() != others * part_len(g) as usize {
+        return false;
+    }
+    chunk.len() == g.chunk_len() as usize
 }
 
 /// Writes the numbers of the code of `k` data chunks, `m` parity chunks and subchunks of `w` bytes, or ends with `BAD_GEOMETRY`.
@@ -143,9 +174,7 @@ pub extern "C" fn clay_parity(
     let Some(g) = geometry(k, m, w) else {
         return BAD_GEOMETRY;
     };
-    if stripe.len() != g.stripe_len() as usize
-        || parity.len() != g.m() as usize * g.chunk_len() as usize
-    {
+    if !parity_fits(g, stripe, parity) {
         return BAD_LENGTH;
     }
     match write_parity(alloc, g, stripe, parity) {
@@ -177,7 +206,7 @@ pub extern "C" fn clay_recover(
     let Some(g) = geometry(k, m, w) else {
         return BAD_GEOMETRY;
     };
-    if present.len() != g.n() as usize || chunks.len() != g.n() as usize * g.chunk_len() as usize {
+    if !chunks_fit(g, present, chunks) {
         return BAD_LENGTH;
     }
     if missing_count(present) > g.m() as usize {
@@ -216,8 +245,7 @@ pub extern "C" fn clay_rebuild(
     if lost >= g.n() {
         return BAD_CHUNK;
     }
-    let others = g.n() as usize - 1;
-    if parts.len() != others * part_len(g) as usize || chunk.len() != g.chunk_len() as usize {
+    if !parts_fit(g, parts, chunk) {
         return BAD_LENGTH;
     }
     match write_rebuilt(alloc, g, lost, parts, chunk) {

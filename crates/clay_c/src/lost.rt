@@ -1,5 +1,5 @@
 //! The calls that read some layers of a lost chunk, while all other chunks are there.
-ghost use Rattle.std.specs.Prelude.{◌≡◌, ◌≢◌, ◌+◌, ◌<◌, ◌↔◌};
+ghost use Rattle.std.specs.Prelude.{◌≡◌, ◌≢◌, ◌+◌, ◌<◌, ◌≤◌, ◌↔◌, IsTrue};
 ghost use Rattle.clay_grid.specs.Shape.{shape_of};
 ghost use Rattle.clay_grid.specs.Limits.{IsGeometry};
 ghost use Rattle.lost_layers.specs.LostPieces.{lost_pieces_of};
@@ -9,8 +9,31 @@ ghost use Rattle.clay_c.specs.Lost.{run_of, AreLayers, piece_count, LostPiecesFi
 use crate::geometry;
 use crate::laid::write_run;
 use crate::status::{BAD_CHUNK, BAD_GEOMETRY, BAD_LAYER, BAD_LENGTH, DONE, OUT_OF_MEMORY};
+use clay_grid::Geometry;
 use lost_layers::{LostPiece, LostRun, PlacedRun, count_of_run, pieces_of_run};
 use std::alloc::Global;
+
+/// Whether a chunk has these layers.
+pub fn are_layers(g: Geometry, from: u32, to: u32) -> bool
+    ensures { IsTrue result ↔ AreLayers g from to }
+{
+    if from > to {
+        return false;
+    }
+    to <= g.alpha()
+}
+
+// Whether these are as many subchunks as the run takes, and room for its own.
+fn bytes_fit(g: Geometry, run: LostRun, count: u32, pieces: &[u8], subchunks: &[u8]) -> bool
+    requires run { run.from ≤ run.to }
+    requires count { count ≡ piece_count g run }
+    ensures { IsTrue result ↔ LostBytesFit g run pieces.now subchunks.now }
+{
+    if pieces.len() != count as usize * g.w() as usize {
+        return false;
+    }
+    subchunks.len() == (run.to - run.from) as usize * g.w() as usize
+}
 
 /// Writes how many subchunks of other chunks determine the layers `from..to` of a lost chunk.
 ///
@@ -38,7 +61,7 @@ pub extern "C" fn clay_lost_count(
     if lost >= g.n() {
         return BAD_CHUNK;
     }
-    if from > to || to > g.alpha() {
+    if !are_layers(g, from, to) {
         return BAD_LAYER;
     }
     *count = count_of_run(&PlacedRun::new(g, LostRun { lost, from, to }));
@@ -75,7 +98,7 @@ pub extern "C" fn clay_lost_pieces(
     if lost >= g.n() {
         return BAD_CHUNK;
     }
-    if from > to || to > g.alpha() {
+    if !are_layers(g, from, to) {
         return BAD_LAYER;
     }
     let placed = PlacedRun::new(g, LostRun { lost, from, to });
@@ -120,14 +143,13 @@ pub extern "C" fn clay_read_lost(
     if lost >= g.n() {
         return BAD_CHUNK;
     }
-    if from > to || to > g.alpha() {
+    if !are_layers(g, from, to) {
         return BAD_LAYER;
     }
-    let placed = PlacedRun::new(g, LostRun { lost, from, to });
+    let run = LostRun { lost, from, to };
+    let placed = PlacedRun::new(g, run);
     let count = count_of_run(&placed);
-    if pieces.len() != count as usize * g.w() as usize
-        || subchunks.len() != (to - from) as usize * g.w() as usize
-    {
+    if !bytes_fit(g, run, count, pieces, subchunks) {
         return BAD_LENGTH;
     }
     match write_run(alloc, &placed, count, pieces, subchunks) {

@@ -9,6 +9,7 @@ ghost use Rattle.lost_read.specs.There.{there_of, gone_with, pieces_with, ReadsW
 ghost use Rattle.clay_c.specs.Without.{ListFits, BytesFit};
 
 use crate::geometry;
+use crate::lost::are_layers;
 use crate::status::{BAD_CHUNK, BAD_GEOMETRY, BAD_LAYER, BAD_LENGTH, DONE, OUT_OF_MEMORY, TOO_FEW};
 use lost_layers::{LostPiece, LostRun};
 use lost_read::{are_few, count_without, pieces_without, read_without};
@@ -49,7 +50,7 @@ pub extern "C" fn clay_missing_count(
     if lost >= g.n() {
         return BAD_CHUNK;
     }
-    if from > to || to > g.alpha() {
+    if !are_layers(g, from, to) {
         return BAD_LAYER;
     }
     if present.len() != g.n() as usize {
@@ -102,7 +103,7 @@ pub extern "C" fn clay_missing_pieces(
     if lost >= g.n() {
         return BAD_CHUNK;
     }
-    if from > to || to > g.alpha() {
+    if !are_layers(g, from, to) {
         return BAD_LAYER;
     }
     if present.len() != g.n() as usize {
@@ -159,7 +160,7 @@ pub extern "C" fn clay_read_missing(
     if lost >= g.n() {
         return BAD_CHUNK;
     }
-    if from > to || to > g.alpha() {
+    if !are_layers(g, from, to) {
         return BAD_LAYER;
     }
     if present.len() != g.n() as usize {
