@@ -1,3 +1,4 @@
+pub mod Tested
 pub mod Refused
 pub mod Laying
 pub mod Taking
