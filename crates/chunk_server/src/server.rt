@@ -39,7 +39,6 @@ struct HeldChunk {
 /// server's chunk of its version. A chunk that comes is moved in. A call takes a time that is
 /// logarithmic in the chunks held, a fetch that of its bytes beside it, and a wipe the time to free
 /// what was held.
-#[derive(Drop)]
 pub struct Server {
     number: u32,
     opening: Opening,
@@ -48,6 +47,21 @@ pub struct Server {
     downs: u64,
     away: bool,
     held: BTreeMap<Version, HeldChunk>,
+}
+
+// By hand, since a derived one is proved again in each crate that drops the type.
+impl Drop for Server {
+    fn drop(self) {
+        let Server {
+            number: _number,
+            opening: _opening,
+            epoch: _epoch,
+            taken: _taken,
+            downs: _downs,
+            away: _away,
+            held: _held,
+        } = self;
+    }
 }
 
 impl Model for Server {

@@ -13,7 +13,6 @@ use std::mem;
 use store_map::Name;
 
 /// An object's length in bytes and the current version of each stripe.
-#[derive(Drop)]
 pub struct Contents {
     pub length: u64,
     pub versions: Vec<u64>,
@@ -21,12 +20,32 @@ pub struct Contents {
     birth: u64,
 }
 
+// By hand, since a derived one is proved again in each crate that drops the type.
+impl Drop for Contents {
+    fn drop(self) {
+        let Contents {
+            length: _length,
+            versions: _versions,
+            birth: _birth,
+        } = self;
+    }
+}
+
 /// The objects by their names. Their births keep the order of creation, so that one that goes can
 /// leave its place to the last entry.
-#[derive(Drop)]
 pub struct Objects {
     listed: IndexMap<Name, Contents>,
     births: u64,
+}
+
+// By hand, since a derived one is proved again in each crate that drops the type.
+impl Drop for Objects {
+    fn drop(self) {
+        let Objects {
+            listed: _listed,
+            births: _births,
+        } = self;
+    }
 }
 
 impl Model for Contents {

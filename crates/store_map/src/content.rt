@@ -8,9 +8,16 @@ use std::alloc::{AllocError, Global};
 use std::marker::Model;
 
 /// Bytes that were written out digit by digit, at most 4,294,967,295 of them.
-#[derive(Debug, Drop)]
+#[derive(Debug)]
 pub struct HexBytes {
     bytes: Vec<u8>,
+}
+
+// By hand, since a derived one is proved again in each crate that drops the type.
+impl Drop for HexBytes {
+    fn drop(self) {
+        let HexBytes { bytes: _bytes } = self;
+    }
 }
 
 impl Model for HexBytes {

@@ -29,9 +29,16 @@ pub enum NameFault {
 }
 
 /// An object's name: 1 to 64 characters of `a-z`, `0-9`, `.`, `_`, `-`.
-#[derive(Debug, Drop)]
+#[derive(Debug)]
 pub struct Name {
     bytes: SmallVec<u8, SHORT>,
+}
+
+// By hand, since a derived one is proved again in each crate that drops the type.
+impl Drop for Name {
+    fn drop(self) {
+        let Name { bytes: _bytes } = self;
+    }
 }
 
 impl Model for Name {

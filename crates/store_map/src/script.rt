@@ -23,7 +23,6 @@ pub struct RepairPart {
 
 /// A whole script: the code, the greatest length of an object, how often a write tries to commit,
 /// the calls of each actor, and the order of their steps.
-#[derive(Drop)]
 pub struct Script {
     /// 1, or 2 where servers may be made away and present.
     pub form: u32,
@@ -35,6 +34,21 @@ pub struct Script {
     pub clients: ListOf<ClientPart>,
     pub repairers: ListOf<RepairPart>,
     pub schedule: ListOf<Token>,
+}
+
+// By hand, since a derived one is proved again in each crate that drops the type.
+impl Drop for Script {
+    fn drop(self) {
+        let Script {
+            form: _form,
+            geometry: _geometry,
+            size: _size,
+            tries: _tries,
+            clients: _clients,
+            repairers: _repairers,
+            schedule: _schedule,
+        } = self;
+    }
 }
 
 impl Script {

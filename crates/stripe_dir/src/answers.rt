@@ -15,8 +15,7 @@ pub enum Look<S = Seat, P = Pass> {
         point: Point,
         reply: Reply,
     },
-    /// A get or a read goes on: these stripes meet the range, rising. The length is the object's, in
-    /// bytes.
+    /// A get or a read goes on: these stripes meet the range, rising. The length is the object's, in bytes.
     Pinned {
         pass: P,
         point: Point,

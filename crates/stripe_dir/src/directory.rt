@@ -7,7 +7,6 @@ use stripe_stamps::Stamps;
 use version_table::Versions;
 
 /// The objects, the versions of their stripes with their stamps, the calls in work and the history.
-#[derive(Drop)]
 pub struct Directory {
     pub(crate) alloc: Global,
     pub(crate) geometry: Geometry,
@@ -17,6 +16,22 @@ pub struct Directory {
     pub(crate) passes: Passes,
     pub(crate) history: History,
     pub(crate) stamps: Stamps,
+}
+
+// By hand, since a derived one is proved again in each crate that drops the type.
+impl Drop for Directory {
+    fn drop(self) {
+        let Directory {
+            alloc: _alloc,
+            geometry: _geometry,
+            max: _max,
+            objects: _objects,
+            versions: _versions,
+            passes: _passes,
+            history: _history,
+            stamps: _stamps,
+        } = self;
+    }
 }
 
 impl Model for Directory {

@@ -6,8 +6,7 @@ use crate::directory::Directory;
 use store_map::Version;
 
 impl Directory {
-    /// Whether the version is drawn, current, superseded or taken. One that isn't was never drawn here,
-    /// or is swept.
+    /// Whether the version is drawn, current, superseded or taken. One that isn't was never drawn here, or is swept.
     pub fn knows(&self, version: Version) -> bool
         ensures { result ≡ is_known self.now.core.versions version.0 }
     {

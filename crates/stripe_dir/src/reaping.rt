@@ -34,8 +34,7 @@ fn give_up(versions: &mut Versions, history: &mut History, pass: &OpenPass) -> u
 }
 
 impl Directory {
-    /// Gives up the actor's pass, where it has one that isn't reaped. The pass stays until its actor's
-    /// next step at the directory.
+    /// Gives up the actor's pass, where it has one that isn't reaped. The pass stays until its actor's next step at the directory.
     pub fn reap(&mut self, actor: Actor) -> Option<Point>
         ensures step { IsStepOfAny (DirectoryStep.Reap actor) self.old self.new (Told.GivenUp (option_map (λ point. point.0) result)) }
         ensures book { self.new.book ≡ self.old.book }

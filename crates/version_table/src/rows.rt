@@ -18,19 +18,39 @@ use std::marker::Model;
 use store_map::{Actor, Placement};
 
 // What is kept of a version that isn't swept, with the number of passes that pin it and aren't reaped.
-#[derive(Drop)]
 pub struct VersionRow {
     pub placed: Vec<Placement>,
     pub standing: Standing,
     pub pins: u64,
 }
 
+// By hand, since a derived one is proved again in each crate that drops the type.
+impl Drop for VersionRow {
+    fn drop(self) {
+        let VersionRow {
+            placed: _placed,
+            standing: _standing,
+            pins: _pins,
+        } = self;
+    }
+}
+
 // All versions, of which those that are swept take no memory.
-#[derive(Drop)]
 pub struct Rows {
     told: ToldVersions,
     count: u64,
     rows: IndexMap<u64, VersionRow>,
+}
+
+// By hand, since a derived one is proved again in each crate that drops the type.
+impl Drop for Rows {
+    fn drop(self) {
+        let Rows {
+            told: _told,
+            count: _count,
+            rows: _rows,
+        } = self;
+    }
 }
 
 impl Model for Rows {

@@ -24,10 +24,19 @@ use store_map::{Actor, Placement};
 /// All versions by their numbers, and the garbage among them. Contracts see every version that ever
 /// was; what is kept when it runs is a row of each that isn't swept, and how many there are. A call
 /// that asks that a version is known asks that it isn't swept.
-#[derive(Drop)]
 pub struct Versions {
     rows: Rows,
     garbage: BinaryHeap<Reverse<u64>>,
+}
+
+// By hand, since a derived one is proved again in each crate that drops the type.
+impl Drop for Versions {
+    fn drop(self) {
+        let Versions {
+            rows: _rows,
+            garbage: _garbage,
+        } = self;
+    }
 }
 
 impl Model for Versions {
