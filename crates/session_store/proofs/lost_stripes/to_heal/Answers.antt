@@ -13,5 +13,5 @@ loop-start-preserved c =
           (next_others c.args.lost.now c.args.parts.now.places.book.geometry.parity_count c.loop-start.start first.0 c.requires first.1 c.loop-start.invariant.others);
       chosen =
           next_chosen c.args.lost.now c.args.parts.now.places.book.geometry.parity_count c.loop-start.start first.0 c.requires first.1 c.loop-start.invariant.others c.m-most.result c.end_of_stripe-end.result c.loop-start.chunks.items
-          c.add_stripe.new.chunks.items (c.m-most.ensures.value ∙ ap (λ g. g.parity_count) (c.geometry-2.ensures ∙ ap (λ b. b.geometry) c.opening.ensures)) ends c.loop-start.invariant.chosen c.in_ok-add_stripe.ensures;
+          c.add_stripe.new.chunks.items (c.m-most.ensures.value ∙ ap (λ g. g.parity_count) (c.geometry.ensures ∙ ap (λ b. b.geometry) c.opening.ensures)) ends c.loop-start.invariant.chosen c.in_ok-add_stripe.ensures;
     }
