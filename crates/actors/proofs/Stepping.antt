@@ -21,7 +21,7 @@ use Rattle.call_machine.specs.Calls.{ArePadded, MachineOf, KnowsOldOf, drawn_by,
 use Rattle.call_machine.proofs.Machines.{if_patches}
 use Rattle.call_steps.specs.CallerCalls.{ended_of}
 use Rattle.call_steps.specs.declared.caller_calls.EndedCall.{EndedCall}
-use Rattle.call_steps.specs.declared.step.Step.{Step}
+use Rattle.call_steps.specs.declared.step_made.Step.{Step}
 use Rattle.world_laws.specs.StepsTold.{IsStep}
 use Rattle.world_laws.specs.TurnMade.{turn_made}
 use Rattle.world_laws.specs.World.{DoingOf}

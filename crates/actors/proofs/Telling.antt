@@ -25,8 +25,8 @@ use Rattle.call_steps.specs.Steps.{need_of}
 use Rattle.call_steps.specs.Ready.{ready}
 use Rattle.call_steps.proofs.Needs.{needs_tell_acts}
 use Rattle.call_machine.specs.Calls.{MachineOf}
-use Rattle.call_steps.specs.declared.step.StepAnswer.TheVariants as answer
-use Rattle.call_steps.specs.declared.step.Step.{Step}
+use Rattle.call_steps.specs.declared.step_made.StepAnswer.TheVariants as answer
+use Rattle.call_steps.specs.declared.step_made.Step.{Step}
 use Rattle.world_laws.specs.StepsTold.{IsAnswer, IsStep}
 use Rattle.world_laws.specs.TurnMade.{turn_made}
 use Rattle.world_laws.specs.World.{DoingOf}

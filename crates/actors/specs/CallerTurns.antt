@@ -4,7 +4,7 @@ use Rattle.store_map.specs.declared.script.Script.{Script}
 use Rattle.version_seal.specs.Entry.{StampOf}
 use Rattle.chunk_server.specs.State.{ServerState}
 use Rattle.stripe_stamps.specs.Sealed.{Sealed}
-use Rattle.call_steps.specs.declared.step.Step.{Step}
+use Rattle.call_steps.specs.declared.step_made.Step.{Step}
 use Rattle.world_laws.specs.StepsTold.{IsStep}
 use Rattle.world_laws.specs.TurnMade.{turn_made}
 use Rattle.actors.specs.Turns.{places_of}

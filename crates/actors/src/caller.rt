@@ -25,10 +25,10 @@ ghost use Rattle.actors.specs.CallerTurns.{HasMore, TellsCallerTurn};
 ghost use Rattle.actors.specs.Inside.{AreOfServers, part_by, served_of};
 
 use crate::after_step::{conclude, forget, put, take};
+use crate::caller_steps::{on_coder, step_call_at_directory, step_call_at_server};
 use crate::left::has_step;
 use crate::next_call::next_call;
 use crate::part::Part;
-use crate::steps::{on_coder, step_call_at_directory, step_call_at_server};
 use call_machine::CallMachine;
 use call_steps::{
     Act, CallerCalls, DirectoryAnswer, EndedCall, Need, ServerAnswer, Step, StepAnswer,

@@ -3,11 +3,11 @@
 
 mod after_step;
 mod caller;
-pub mod laws;
+mod caller_steps;
+pub mod laws_of_turns;
 mod left;
 mod next_call;
 mod part;
-mod steps;
 
 pub use after_step::forget;
 pub use caller::Caller;

@@ -28,7 +28,7 @@ use Rattle.clay_aloof.specs.Solved.{Fits, HoldsSubchunks}
 use Rattle.clay_aloof.specs.Rebuilt.{IsEntry}
 use Rattle.clay_aloof.specs.Recovered.{is_gone, is_gone_node, chunk_in, HasOthers, IsRecovered}
 use Rattle.aloof_recovery.specs.Recoveries.{IsMissingPlan, AreChunkTables, starts_left, AreChunks, AreHeld, IsPut, ArePut}
-use Rattle.clay_aloof.specs.declared.layers.Plan.{Plan}
+use Rattle.clay_aloof.specs.declared.layer_solving.Plan.{Plan}
 use Rattle.clay_aloof.specs.declared.known.Known.{Known}
 use Rattle.clay_aloof.specs.declared.known.Tables.{Tables}
 use Rattle.clay_aloof.specs.declared.known.Source.TheVariants.{Shown}

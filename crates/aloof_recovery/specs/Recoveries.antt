@@ -11,7 +11,7 @@ use Rattle.clay_aloof.specs.Tables.{AreTables, AreOwnPlaces}
 use Rattle.clay_aloof.specs.Solved.{IsPlan, IsIn, AreSolved}
 use Rattle.clay_aloof.specs.Rebuilt.{IsEntry}
 use Rattle.clay_aloof.specs.Recovered.{is_gone, is_gone_node, chunk_in, HasOthers}
-use Rattle.clay_aloof.specs.declared.layers.Plan.{Plan}
+use Rattle.clay_aloof.specs.declared.layer_solving.Plan.{Plan}
 use Rattle.clay_aloof.specs.declared.known.Tables.{Tables}
 use Rattle.aloof_recovery.specs.declared.recovery.Recovery.{Recovery}
 

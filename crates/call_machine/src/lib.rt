@@ -2,7 +2,7 @@
 #![tactic(auto)]
 
 mod call_machine;
-pub mod laws;
+pub mod laws_of_known_stamps;
 pub mod laws_of_owing;
 
 pub use call_machine::CallMachine;

@@ -6,13 +6,13 @@
 mod act;
 mod answer;
 mod caller_calls;
-pub mod laws;
+pub mod laws_of_acts;
 pub mod laws_of_machines;
 mod need;
 mod outcome;
 mod outcomes;
 mod seen;
-mod step;
+mod step_made;
 
 pub use act::{Act, DirectoryAct, ServerAct};
 pub use answer::{DirectoryAnswer, ReplyKind, ServerAnswer};
@@ -21,4 +21,4 @@ pub use need::Need;
 pub use outcome::CallOutcome;
 pub use outcomes::{Change, Outcome, RepairOutcome};
 pub use seen::Seen;
-pub use step::{Step, StepAnswer};
+pub use step_made::{Step, StepAnswer};

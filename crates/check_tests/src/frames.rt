@@ -4,7 +4,7 @@ use clay_bytes::DripSource;
 use frame_bytes::{most_input, read_frame, request_of};
 use std::alloc::{AllocError, Global};
 use std::test::Fail;
-use text_tables::faults::{parts, rows_of, same};
+use text_tables::fault_tables::{parts, rows_of, same};
 
 // The request of a frame, in a code of four servers.
 fn request_shown(alloc: Global, frame: &[u8]) -> Result<String, Fail> {

@@ -4,7 +4,7 @@ use script_text::read_script;
 use std::alloc::Global;
 use std::test::Fail;
 use store_map::{Script, Transcript};
-use text_tables::faults::{Around, failed, joined, parts, rows_of};
+use text_tables::fault_tables::{Around, failed, joined, parts, rows_of};
 use transcript_read::read_transcript;
 
 /// Two clients that put and read, one that writes, one repairer. Server 1 is emptied once.

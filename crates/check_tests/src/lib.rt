@@ -4,8 +4,6 @@
 #![tactic(auto)]
 
 #[cfg(test)]
-mod answers;
-#[cfg(test)]
 mod frames;
 #[cfg(test)]
 mod judge;
@@ -17,6 +15,8 @@ mod streams;
 mod verdicts;
 #[cfg(test)]
 pub mod worked_rows;
+#[cfg(test)]
+mod written_answers;
 
 #[cfg(test)]
 use std::test::Fail;

@@ -1,7 +1,7 @@
 //! Transcripts that are judged: those that break no rule, and others that each break one.
 use crate::judge::{ALONE, BEFORE_ITS_END, SCRIPT, are_judged};
 use std::test::Fail;
-use text_tables::faults::Around;
+use text_tables::fault_tables::Around;
 
 // More than two of four servers are away when the put asks them.
 const AWAY: &[u8] = b"\

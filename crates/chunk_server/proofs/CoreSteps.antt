@@ -9,8 +9,8 @@ use Rattle.store_core.specs.Server.{Server, at_server, raised_by, hold, install}
 use Rattle.chunk_server.specs.State.{Held, ServerState, is_held, found_at}
 use Rattle.chunk_server.specs.Steps.{after_adding, prepare_of, after_settle, presence_of, chunk_given, taken_from, fetch_of, install_by, install_of, after_discard}
 use Rattle.chunk_server.specs.Core.{core_of, told_presence, told_given, told_added}
-use Rattle.chunk_server.specs.declared.answers.Presence.{Presence}
-use Rattle.chunk_server.specs.declared.answers.Presence.TheVariants as presence
+use Rattle.chunk_server.specs.declared.server_answers.Presence.{Presence}
+use Rattle.chunk_server.specs.declared.server_answers.Presence.TheVariants as presence
 use Rattle.store_map.specs.declared.placement.Placement.{Placement}
 use Rattle.store_map.specs.declared.placement.Placement.TheVariants as placement
 use Rattle.chunk_server.specs.declared.server.Mark.{Mark}

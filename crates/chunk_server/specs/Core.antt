@@ -4,12 +4,12 @@ use Rattle.store_map.specs.declared.placement.Placement.{Placement}
 use Rattle.store_core.specs.Told.{Told}
 use Rattle.store_core.specs.Server.{Server}
 use Rattle.chunk_server.specs.State.{ServerState, versions_of}
-use Rattle.chunk_server.specs.declared.answers.Presence.{Presence}
-use Rattle.chunk_server.specs.declared.answers.Presence.TheVariants as presence
-use Rattle.chunk_server.specs.declared.answers.Fetched.{Fetched}
-use Rattle.chunk_server.specs.declared.answers.Fetched.TheVariants as fetched
-use Rattle.chunk_server.specs.declared.answers.Installed.{Installed}
-use Rattle.chunk_server.specs.declared.answers.Installed.TheVariants as installed
+use Rattle.chunk_server.specs.declared.server_answers.Presence.{Presence}
+use Rattle.chunk_server.specs.declared.server_answers.Presence.TheVariants as presence
+use Rattle.chunk_server.specs.declared.server_answers.Fetched.{Fetched}
+use Rattle.chunk_server.specs.declared.server_answers.Fetched.TheVariants as fetched
+use Rattle.chunk_server.specs.declared.server_answers.Installed.{Installed}
+use Rattle.chunk_server.specs.declared.server_answers.Installed.TheVariants as installed
 
 -- the server without its number, its book, its marks and its chunks' contents
 abbrev pub core_of : ServerState → Server

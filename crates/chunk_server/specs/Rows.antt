@@ -9,9 +9,9 @@ use Rattle.version_seal.specs.Sealed.{ChunkOf, chunk_of}
 use Rattle.chunk_server.specs.State.{Held, ServerState, empty_server, settled_chunk}
 use Rattle.chunk_server.specs.Steps.{prepare_of, after_settle, presence_of, fetch_of, install_of, after_discard, after_wipe, after_down, after_up}
 use Rattle.chunk_server.specs.declared.server.Mark.TheVariants.{Prepared, Settled}
-use Rattle.chunk_server.specs.declared.answers.Presence.TheVariants as presence
-use Rattle.chunk_server.specs.declared.answers.Fetched.TheVariants as fetched
-use Rattle.chunk_server.specs.declared.answers.Installed.TheVariants as installed
+use Rattle.chunk_server.specs.declared.server_answers.Presence.TheVariants as presence
+use Rattle.chunk_server.specs.declared.server_answers.Fetched.TheVariants as fetched
+use Rattle.chunk_server.specs.declared.server_answers.Installed.TheVariants as installed
 
 -- chunks of four subchunks of two bytes
 abbrev pub small_code : Shape

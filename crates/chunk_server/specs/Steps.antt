@@ -7,12 +7,12 @@ use Rattle.version_seal.specs.Sealed.{ChunkOf, part_of}
 use Rattle.chunk_server.specs.State.{Held, ServerState, is_held, chunk_of, found_at, hold, settled_at, let_go}
 use Rattle.chunk_server.specs.declared.server.Mark.{Mark}
 use Rattle.chunk_server.specs.declared.server.Mark.TheVariants.{Prepared, Settled}
-use Rattle.chunk_server.specs.declared.answers.Presence.{Presence}
-use Rattle.chunk_server.specs.declared.answers.Presence.TheVariants as presence
-use Rattle.chunk_server.specs.declared.answers.Fetched.{Fetched}
-use Rattle.chunk_server.specs.declared.answers.Fetched.TheVariants as fetched
-use Rattle.chunk_server.specs.declared.answers.Installed.{Installed}
-use Rattle.chunk_server.specs.declared.answers.Installed.TheVariants as installed
+use Rattle.chunk_server.specs.declared.server_answers.Presence.{Presence}
+use Rattle.chunk_server.specs.declared.server_answers.Presence.TheVariants as presence
+use Rattle.chunk_server.specs.declared.server_answers.Fetched.{Fetched}
+use Rattle.chunk_server.specs.declared.server_answers.Fetched.TheVariants as fetched
+use Rattle.chunk_server.specs.declared.server_answers.Installed.{Installed}
+use Rattle.chunk_server.specs.declared.server_answers.Installed.TheVariants as installed
 
 -- a version's chunk is added with a mark, unless the version is held
 abbrev pub after_adding : Mark → ChunkOf → ServerState → ServerState

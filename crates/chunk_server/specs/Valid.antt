@@ -4,8 +4,8 @@ use Rattle.clay_grid.specs.Shape.{Shape}
 use Rattle.store_core.specs.HeldLaws.{IsRising}
 use Rattle.version_seal.specs.Sealed.{ChunkOf, PartOf, IsSealed}
 use Rattle.chunk_server.specs.State.{Held, ServerState, versions_of}
-use Rattle.chunk_server.specs.declared.answers.Fetched.{Fetched}
-use Rattle.chunk_server.specs.declared.answers.Fetched.TheVariants as fetched
+use Rattle.chunk_server.specs.declared.server_answers.Fetched.{Fetched}
+use Rattle.chunk_server.specs.declared.server_answers.Fetched.TheVariants as fetched
 
 -- a chunk is of a book, for the server of this number, and of this code
 pub record IsFor (home : List ℕ) (number : ℕ) (g : Shape) (chunk : ChunkOf) : Type 0 where

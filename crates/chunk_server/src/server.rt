@@ -11,7 +11,7 @@ ghost use Rattle.chunk_server.specs.Valid.{MayCome, IsValid, GivesPart};
 ghost use Rattle.chunk_server.specs.Steps.{after_adding, prepare_of, after_settle, presence_of, fetch_of, install_of, after_discard, after_wipe, after_down, after_up};
 ghost use Rattle.chunk_server.specs.Core.{core_of, told_prepared, told_presence, told_fetched, told_installed};
 
-use crate::answers::{Fetched, Installed, Presence};
+use crate::server_answers::{Fetched, Installed, Presence};
 use clay_grid::Geometry;
 use std::alloc::{AllocError, Global};
 use std::collections::BTreeMap;

@@ -18,7 +18,7 @@ use Rattle.clay_aloof.specs.Code.{coupled_value}
 use Rattle.clay_aloof.specs.Pieces.{PiecesFit}
 use Rattle.clay_aloof.specs.Solved.{Fits, IsUncoupled}
 use Rattle.clay_aloof.specs.Rebuilt.{is_missing_node, IsGiven, IsRepairPlan, ArePut, IsLostPiece, HoldsLost, IsLostChunk}
-use Rattle.clay_aloof.specs.declared.layers.Plan.{Plan}
+use Rattle.clay_aloof.specs.declared.layer_solving.Plan.{Plan}
 use Rattle.clay_aloof.proofs.Layer.{some_rows}
 use Rattle.clay_aloof.proofs.Nodes.{node_inside, node_real, coupled_real}
 use Rattle.clay_aloof.proofs.Parts.{known_value, word_fits, column_known}

@@ -4,8 +4,8 @@ use Rattle.std.proofs.lemmas.Bool.{cases_lt}
 use Rattle.clay_grid.specs.Shape.{layer_count, chunk_length}
 use Rattle.clay_aloof.specs.Shape.{AloofShape, all_chunks, grid_of}
 use Rattle.clay_aloof.specs.Limits.{IsWithinLimits, HasCounts, IsFirstFault}
-use Rattle.clay_aloof.specs.declared.fault.BadAloof.{BadAloof}
-use Rattle.clay_aloof.specs.declared.fault.BadAloof.TheVariants.{DataCount, ParityCount, Helpers, Layers, Width, ChunkSize}
+use Rattle.clay_aloof.specs.declared.aloof_fault.BadAloof.{BadAloof}
+use Rattle.clay_aloof.specs.declared.aloof_fault.BadAloof.TheVariants.{DataCount, ParityCount, Helpers, Layers, Width, ChunkSize}
 
 -- the limits past the counts
 counted : (a : AloofShape) → HasCounts a → IsWithinLimits a ⊎ ((f : BadAloof) × IsFirstFault a f)

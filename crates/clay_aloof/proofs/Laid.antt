@@ -12,7 +12,7 @@ use Rattle.clay_aloof.specs.Shape.{AloofShape, all_chunks, grid_of, stripe_bytes
 use Rattle.clay_aloof.specs.Code.{Codes}
 use Rattle.clay_aloof.specs.Solved.{HoldsSubchunks}
 use Rattle.clay_aloof.specs.Encoded.{IsParityPlan, IsSpread, HoldsParity, chunks_in, chunks_of}
-use Rattle.clay_aloof.specs.declared.layers.Plan.{Plan}
+use Rattle.clay_aloof.specs.declared.layer_solving.Plan.{Plan}
 use Rattle.clay_aloof.proofs.Word.{IsMade, encoded}
 
 pub no_parity : (a : AloofShape) (plan : Plan) (known parity : List ℕ) → HoldsParity a plan known 0 parity

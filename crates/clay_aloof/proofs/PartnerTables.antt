@@ -9,8 +9,8 @@ use Rattle.clay_grid.proofs.LayerLaws.{get_or-digits_of, partner_vertex, partner
 use Rattle.clay_model.proofs.Unique.{row_of, node_below}
 use Rattle.clay_model.specs.Partners.{ArePartners}
 use Rattle.clay_aloof.specs.Partners.{stride_of, IsPlace, IsDigit, HoldsPlaces, HoldsDigits, HoldsColumns, HasTables}
-use Rattle.clay_aloof.specs.declared.partners.Place.{Place}
-use Rattle.clay_aloof.specs.declared.partners.Digit.{Digit}
+use Rattle.clay_aloof.specs.declared.partner_tables.Place.{Place}
+use Rattle.clay_aloof.specs.declared.partner_tables.Digit.{Digit}
 use Rattle.clay_aloof.proofs.Layer.{some_rows}
 
 -- an entry more of a list of which each has a property

@@ -20,7 +20,7 @@ use Rattle.clay_aloof.specs.Pieces.{PiecesFit, FitsPieces}
 use Rattle.clay_aloof.specs.Solved.{IsIn, Fits}
 use Rattle.clay_aloof.specs.Rebuilt.{is_unknown, IsGiven, IsRepairPlan, kept_layers, ArePut}
 use Rattle.clay_aloof.specs.Ordered.{AreKept}
-use Rattle.clay_aloof.specs.declared.layers.Plan.{Plan}
+use Rattle.clay_aloof.specs.declared.layer_solving.Plan.{Plan}
 use Rattle.clay_aloof.proofs.Layer.{some_rows}
 use Rattle.clay_aloof.proofs.Nodes.{node_back, coupled_real, coupled_virtual, coupled_byte}
 use Rattle.clay_aloof.proofs.Kept.{kept_from, kept_each, kept_rising}

@@ -8,7 +8,7 @@ use Rattle.clay_model.specs.Partners.{ArePartners}
 use Rattle.clay_aloof.specs.Shape.{AloofShape, grid_of}
 use Rattle.clay_aloof.specs.Rebuilt.{IsGiven}
 use Rattle.clay_aloof.specs.Solved.{IsPlan, IsIn}
-use Rattle.clay_aloof.specs.declared.layers.Plan.{Plan}
+use Rattle.clay_aloof.specs.declared.layer_solving.Plan.{Plan}
 
 -- a few erased nodes, and layers by rising score, with each layer that one of them needs
 pub record AreOrdered (g : Shape) (erased : List Bool) (layers : List ℕ) : Type 0 where

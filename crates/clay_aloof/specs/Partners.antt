@@ -3,8 +3,8 @@ use Rattle.std.specs.Prelude.{◌≡◌, ℕ, ◌-◌, ◌*◌, ◌/◌, ◌%◌
 use Rattle.std.specs.declared.alloc.Global.{Global}
 use Rattle.clay_grid.specs.Shape.{Shape, row_count, column_count, node_count, layer_count}
 use Rattle.clay_grid.specs.Limits.{IsGeometry}
-use Rattle.clay_aloof.specs.declared.partners.Place.{Place}
-use Rattle.clay_aloof.specs.declared.partners.Digit.{Digit}
+use Rattle.clay_aloof.specs.declared.partner_tables.Place.{Place}
+use Rattle.clay_aloof.specs.declared.partner_tables.Digit.{Digit}
 
 -- what a digit of column y counts in a layer's number
 abbrev pub stride_of : Shape → ℕ → ℕ

@@ -10,7 +10,7 @@ use Rattle.clay_aloof.specs.Repair.{aloof_layers_of}
 use Rattle.clay_aloof.specs.Pieces.{FitsPieces}
 use Rattle.clay_aloof.specs.Tables.{AreTables}
 use Rattle.clay_aloof.specs.Solved.{IsPlan, IsIn, HasPlaces}
-use Rattle.clay_aloof.specs.declared.layers.Plan.{Plan}
+use Rattle.clay_aloof.specs.declared.layer_solving.Plan.{Plan}
 use Rattle.clay_aloof.specs.declared.known.Tables.{Tables}
 
 -- a virtual node

@@ -6,7 +6,7 @@ use Rattle.clay_aloof.specs.Shape.{AloofShape, all_chunks, grid_of, is_virtual_n
 use Rattle.clay_aloof.specs.Code.{IsCodeword}
 use Rattle.clay_aloof.specs.Limits.{IsAloof}
 use Rattle.clay_aloof.specs.Solved.{IsPlan, IsIn}
-use Rattle.clay_aloof.specs.declared.layers.Plan.{Plan}
+use Rattle.clay_aloof.specs.declared.layer_solving.Plan.{Plan}
 
 -- whether chunk c is missing
 abbrev pub is_gone : List Bool → ℕ → Bool

@@ -2,22 +2,22 @@
 //! MSR Code", FAST 2018, section 6): the chunks that don't help stay aloof.
 #![tactic(auto)]
 
-mod chunks;
-mod fault;
-mod geometry;
+mod aloof_chunks;
+mod aloof_fault;
+mod aloof_geometry;
 mod known;
-mod laws;
-mod layers;
-mod lost;
-mod partners;
+mod laws_of_aloof_codes;
+mod layer_solving;
+mod lost_chunk;
+mod partner_tables;
 
-pub use chunks::{couple_chunk, encode, numbers, parity_into, whole_plan};
-pub use fault::BadAloof;
-pub use geometry::AloofGeometry;
+pub use aloof_chunks::{couple_chunk, encode, numbers, parity_into, whole_plan};
+pub use aloof_fault::BadAloof;
+pub use aloof_geometry::AloofGeometry;
 pub use known::{Known, Source, Tables};
-pub use laws::{
+pub use laws_of_aloof_codes::{
     codes_are_filled, codewords_are_unique, fault_law, full_helpers, parts_are_coded,
     worked_codeword,
 };
-pub use layers::{Plan, solved_values};
-pub use lost::{aloof_layers, chunk_of, chunks_of_nodes, helpers_fit, rebuild, rebuild_into};
+pub use layer_solving::{Plan, solved_values};
+pub use lost_chunk::{aloof_layers, chunk_of, chunks_of_nodes, helpers_fit, rebuild, rebuild_into};

@@ -2,17 +2,17 @@
 //! and steps at the directory.
 #![tactic(auto)]
 
-mod calls;
-mod chunks;
-mod coding;
-mod directory;
+mod bench_words;
+mod drawn_calls;
 mod least;
-mod prepared;
 mod rack;
+mod sealed_chunks;
 mod seals;
-mod steps;
 mod task;
-mod words;
+mod timed_coding;
+mod timed_directory;
+mod timed_prepared;
+mod timed_steps;
 
 use std::alloc::Global;
 use std::env;
@@ -37,10 +37,10 @@ fn measure<R: Threads + Sync + Clock + CpuClock + Print>(
         return Ok(());
     };
     match what.as_str() {
-        "prepared" => prepared::time_prepared(rt, alloc, words),
+        "prepared" => timed_prepared::time_prepared(rt, alloc, words),
         "seals" => seals::time_calls(rt, alloc, words),
-        "directory" => directory::make_steps(rt, alloc, words),
-        name => coding::time_task(rt, alloc, name, words),
+        "directory" => timed_directory::make_steps(rt, alloc, words),
+        name => timed_coding::time_task(rt, alloc, name, words),
     }
 }
 

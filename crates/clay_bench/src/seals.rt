@@ -2,10 +2,10 @@
 
 ghost use Rattle.std.specs.Prelude.{◌≡◌, ◌<◌, length};
 
-use crate::chunks::chunks_of;
+use crate::bench_words::number_at;
 use crate::least::Least;
 use crate::rack::{Rack, ServerCall, VERSIONS};
-use crate::words::number_at;
+use crate::sealed_chunks::chunks_of;
 use anyhow::ensure;
 use clay_grid::Geometry;
 use std::alloc::Global;

@@ -4,8 +4,8 @@ use Rattle.std.specs.Prelude.{IfErr, MatchOption}
 use Rattle.std.specs.Result.{result_ok}
 use Rattle.clay_aloof.specs.Shape.{AloofShape}
 use Rattle.clay_aloof.specs.Limits.{IsAloof, IsFirstFault}
-use Rattle.clay_aloof.specs.declared.fault.BadAloof.{BadAloof}
-use Rattle.clay_aloof.specs.declared.fault.BadAloof.TheVariants.{DataCount, ParityCount, Helpers, Layers, Width, ChunkSize}
+use Rattle.clay_aloof.specs.declared.aloof_fault.BadAloof.{BadAloof}
+use Rattle.clay_aloof.specs.declared.aloof_fault.BadAloof.TheVariants.{DataCount, ParityCount, Helpers, Layers, Width, ChunkSize}
 
 refused : (a : AloofShape) (fault : BadAloof) → IsFirstFault a fault → IsAloof a → ⊥
 refused a DataCount f h = let k = h.limits.data_chunks in omega (arith, f, k)

@@ -7,7 +7,7 @@ ghost use Rattle.clay_c.specs.Missing.{AloofChunksFit, RecoversAloof};
 ghost use Rattle.clay_c.specs.Calls.{lost_count};
 
 use crate::marks::marked_starts;
-use crate::recovery::missing_marks;
+use crate::recover_calls::missing_marks;
 use aloof_recovery::recover_into;
 use clay_aloof::{AloofGeometry, parity_into, rebuild_into};
 use clay_lanes::ChunkView;

@@ -10,28 +10,28 @@ ghost use Rattle.clay_c.specs.Status.{done, bad_geometry, bad_length, bad_chunk,
 ghost use Rattle.clay_c.specs.Calls.{HasNumbers, LayersFit, ParityFits, MakesParity, ChunksFit, lost_count, Recovers, PartsFit, Rebuilds};
 
 mod aloof;
-mod apart;
-mod encoding;
-mod helpers;
+mod c_status;
+mod calls_apart;
+mod encode_calls;
+mod helper_calls;
 mod laid;
-mod lost;
+mod lost_calls;
 mod marks;
-mod pieces;
-mod rebuilding;
-mod recovery;
-mod status;
+mod piece_starts;
+mod rebuild_calls;
+mod recover_calls;
 mod without;
 
-use crate::rebuilding::{part_len, write_rebuilt};
-use crate::recovery::{missing_count, write_missing, write_parity};
-use crate::status::{BAD_CHUNK, BAD_GEOMETRY, BAD_LENGTH, DONE, OUT_OF_MEMORY, TOO_FEW};
-pub use apart::{clay_encode_chunks, clay_rebuild_chunks, clay_recover_chunks};
+use crate::c_status::{BAD_CHUNK, BAD_GEOMETRY, BAD_LENGTH, DONE, OUT_OF_MEMORY, TOO_FEW};
+use crate::rebuild_calls::{part_len, write_rebuilt};
+use crate::recover_calls::{missing_count, write_missing, write_parity};
+pub use calls_apart::{clay_encode_chunks, clay_rebuild_chunks, clay_recover_chunks};
 use clay_grid::Geometry;
-pub use helpers::{
+pub use helper_calls::{
     clay_geometry_with_helpers, clay_parity_with_helpers, clay_rebuild_with_helpers,
     clay_recover_with_helpers, clay_repair_layers_with_helpers,
 };
-pub use lost::{clay_lost_count, clay_lost_pieces, clay_read_lost};
+pub use lost_calls::{clay_lost_count, clay_lost_pieces, clay_read_lost};
 use std::alloc::Global;
 pub use without::{clay_missing_count, clay_missing_pieces, clay_read_missing};
 

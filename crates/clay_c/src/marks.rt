@@ -4,7 +4,7 @@ ghost use Rattle.clay_grid.specs.Score.{count_below};
 ghost use Rattle.clay_aloof.specs.Shape.{all_chunks};
 ghost use Rattle.clay_c.specs.Helpers.{is_marked, starts_marked, MarksFit, IsUnmarked, HasMarks};
 
-use crate::pieces::piece_start;
+use crate::piece_starts::piece_start;
 use clay_aloof::AloofGeometry;
 use std::alloc::{AllocError, Global};
 

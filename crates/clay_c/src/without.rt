@@ -8,9 +8,11 @@ ghost use Rattle.clay_c.specs.Lost.{run_of, AreLayers};
 ghost use Rattle.lost_read.specs.There.{there_of, gone_with, pieces_with, ReadsWithout};
 ghost use Rattle.clay_c.specs.Without.{ListFits, BytesFit};
 
+use crate::c_status::{
+    BAD_CHUNK, BAD_GEOMETRY, BAD_LAYER, BAD_LENGTH, DONE, OUT_OF_MEMORY, TOO_FEW,
+};
 use crate::geometry;
-use crate::lost::are_layers;
-use crate::status::{BAD_CHUNK, BAD_GEOMETRY, BAD_LAYER, BAD_LENGTH, DONE, OUT_OF_MEMORY, TOO_FEW};
+use crate::lost_calls::are_layers;
 use lost_layers::{LostPiece, LostRun};
 use lost_read::{are_few, count_without, pieces_without, read_without};
 use std::alloc::Global;

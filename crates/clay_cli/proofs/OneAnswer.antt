@@ -26,7 +26,7 @@ use Rattle.clay_cli.specs.Top.{Answers}
 use Rattle.clay_cli.specs.Laws.{HasOneAnswer}
 use Rattle.clay_cli.specs.declared.status.Status.{Status}
 use Rattle.clay_cli.specs.declared.status.Status.TheVariants.{Done, DataRefused}
-use Rattle.clay_words.specs.declared.words.Task.TheVariants.{Chunks, Recover, AloofChunks, AloofRepair}
+use Rattle.clay_words.specs.declared.numbers_of_words.Task.TheVariants.{Chunks, Recover, AloofChunks, AloofRepair}
 use Rattle.clay_cli.proofs.SameEntries.{IsReadable, bytes_of, missing, none_back, read_once, refused_further, refused_once, same_at, same_bytes, same_length, same_missing, same_none, same_some}
 
 -- ---- answers of two kinds

@@ -23,7 +23,7 @@ use Rattle.clay_cli.specs.Top.{Answers}
 use Rattle.clay_cli.specs.Laws.{HasOneVerdict}
 use Rattle.clay_cli.specs.declared.status.Status.{Status}
 use Rattle.clay_cli.specs.declared.status.Status.TheVariants.{Done, Usage, ScriptRefused, InputTooLong, ReadFault, WriteFault, OutOfMemory, NotLegal, DataRefused}
-use Rattle.clay_words.specs.declared.words.Task.TheVariants.{Verify}
+use Rattle.clay_words.specs.declared.numbers_of_words.Task.TheVariants.{Verify}
 
 -- the status of a verdict
 abbrev HasStatus : Verdict → Status → Type 0

@@ -4,17 +4,17 @@ use Rattle.std.specs.Prelude.{Result, Ok, Err, IfOk, ◌⊎◌, ◌<◌, ◌^◌
 use Rattle.std.proofs.lemmas.List.{length-map}
 use Rattle.clay_grid.specs.Shape.{chunk_count}
 use Rattle.line_grammar.specs.Values.{IsScript}
-use Rattle.line_grammar.specs.declared.fault.FaultKind.{FaultKind}
-use Rattle.line_grammar.specs.declared.fault.FaultKind.TheVariants.{OutOfMemory}
+use Rattle.line_grammar.specs.declared.line_fault.FaultKind.{FaultKind}
+use Rattle.line_grammar.specs.declared.line_fault.FaultKind.TheVariants.{OutOfMemory}
 use Rattle.script_text.specs.FirstFault.{IsFrontFault, OrMemory}
 use Rattle.script_text.specs.Spelling.{spelling}
-use Rattle.script_text.specs.declared.fault.ScriptFault.{ScriptFault}
+use Rattle.script_text.specs.declared.script_fault.ScriptFault.{ScriptFault}
 use Rattle.store_map.specs.Naming.{IsValid}
 use Rattle.store_map.specs.declared.script.Script.{Script}
 use Rattle.transcript_read.specs.Fault.{IsFault}
 use Rattle.transcript_read.specs.WellFormed.{IsWellFormed, kinds_of}
-use Rattle.transcript_read.specs.declared.line.Line.{Line}
-use Rattle.transcript_read.specs.declared.line.Line.TheVariants as line
+use Rattle.transcript_read.specs.declared.transcript_line.Line.{Line}
+use Rattle.transcript_read.specs.declared.transcript_line.Line.TheVariants as line
 use Rattle.transcript_read.proofs.CoverLaws.{fault_within}
 use Rattle.transcript_read.proofs.OrderedListLaws.{lines_within}
 use Rattle.transcript_text.specs.Text.{text_of}
@@ -27,7 +27,7 @@ use Rattle.clay_cli.specs.Verify.{line_count}
 use Rattle.clay_cli.specs.Top.{Answers}
 use Rattle.clay_cli.specs.declared.status.Status.{Status}
 use Rattle.clay_cli.specs.declared.status.Status.TheVariants.{Done, NotLegal, ScriptRefused}
-use Rattle.clay_words.specs.declared.words.Task.TheVariants.{Verify}
+use Rattle.clay_words.specs.declared.numbers_of_words.Task.TheVariants.{Verify}
 
 is_fault : (Fault : ℕ → FaultKind → Type 0) (f : ScriptFault) → OrMemory Fault f → f.kind ≢ OutOfMemory → Fault f.line f.kind
 is_fault Fault f (inl memory) other = absurd (other memory.1)

@@ -5,8 +5,8 @@ use Rattle.line_grammar.specs.Values.{IsScript}
 use Rattle.clay_gen.specs.Script.{generated}
 use Rattle.clay_cli.specs.Top.{Answers}
 use Rattle.clay_cli.specs.declared.status.Status.{Status}
-use Rattle.clay_words.specs.declared.words.Task.{Task}
-use Rattle.clay_words.specs.declared.words.Task.TheVariants.{Verify}
+use Rattle.clay_words.specs.declared.numbers_of_words.Task.{Task}
+use Rattle.clay_words.specs.declared.numbers_of_words.Task.TheVariants.{Verify}
 
 -- a generated script is one that a text can spell, and within the limits
 abbrev pub GeneratedAreScripts : Type 0

@@ -2,8 +2,8 @@
 use Rattle.std.specs.Prelude.{◌≡◌, ℕ, List, ◌++◌, codes, decimal}
 use Rattle.store_map.specs.declared.script.Script.{Script}
 use Rattle.script_text.specs.FirstFault.{Spelled, IsFault}
-use Rattle.line_grammar.specs.declared.fault.FaultKind.{FaultKind}
-use Rattle.line_grammar.specs.declared.fault.FaultKind.TheVariants as fault
+use Rattle.line_grammar.specs.declared.line_fault.FaultKind.{FaultKind}
+use Rattle.line_grammar.specs.declared.line_fault.FaultKind.TheVariants as fault
 use Rattle.transcript_text.specs.Text.{text_of}
 use Rattle.store_map.specs.declared.transcript.Transcript.{Transcript}
 

@@ -4,7 +4,7 @@ use Rattle.clay_grid.specs.Shape.{chunk_count}
 use Rattle.store_map.specs.Naming.{IsValid}
 use Rattle.store_map.specs.declared.script.Script.{Script}
 use Rattle.line_grammar.specs.Values.{IsScript}
-use Rattle.line_grammar.specs.declared.fault.FaultKind.{FaultKind}
+use Rattle.line_grammar.specs.declared.line_fault.FaultKind.{FaultKind}
 use Rattle.script_text.specs.FirstFault.{IsFrontFault}
 use Rattle.script_text.specs.Spelling.{spelling}
 use Rattle.transcript_text.specs.Text.{text_of}

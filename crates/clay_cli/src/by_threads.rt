@@ -6,7 +6,7 @@ ghost use Rattle.clay_cli.specs.Play.{IsTextOf};
 ghost use Rattle.clay_cli.specs.Top.{IsAnswer, IsOfInput};
 ghost use Rattle.clay_cli.specs.Trial.{IsTried, trial_lines};
 ghost use Rattle.clay_words.specs.Words.{IsWorkerCount};
-ghost use Rattle.clay_words.specs.declared.words.Task.TheVariants.{Run};
+ghost use Rattle.clay_words.specs.declared.numbers_of_words.Task.TheVariants.{Run};
 
 use crate::Status;
 use crate::output::Output;

@@ -1,7 +1,7 @@
 //! The command `chunks`.
 ghost use Rattle.std.specs.Prelude.{IfOk};
 ghost use Rattle.clay_cli.specs.Top.{IsAnswer, IsOfInput};
-ghost use Rattle.clay_words.specs.declared.words.Task.TheVariants.{Chunks};
+ghost use Rattle.clay_words.specs.declared.numbers_of_words.Task.TheVariants.{Chunks};
 
 use crate::Status;
 use crate::output::Output;

@@ -1,7 +1,7 @@
 //! The command `chunksd`.
 ghost use Rattle.std.specs.Prelude.{IfOk};
 ghost use Rattle.clay_cli.specs.Top.{IsAnswer, IsOfInput};
-ghost use Rattle.clay_words.specs.declared.words.Task.TheVariants.{AloofChunks};
+ghost use Rattle.clay_words.specs.declared.numbers_of_words.Task.TheVariants.{AloofChunks};
 
 use crate::Status;
 use crate::output::Output;

@@ -4,10 +4,10 @@
 mod by_threads;
 mod chunks;
 mod chunksd;
-mod coder;
+mod command_coder;
 mod generate;
 mod input;
-pub mod laws;
+pub mod laws_of_commands;
 pub mod laws_of_forms;
 mod output;
 mod play;

@@ -4,7 +4,7 @@ ghost use Rattle.store_map.specs.Naming.{IsValid};
 ghost use Rattle.history_laws.specs.Played.{IsPlayed};
 ghost use Rattle.clay_cli.specs.Play.{IsTextOf, kind_text, refusal_line};
 ghost use Rattle.clay_cli.specs.Top.{IsAnswer, IsOfInput};
-ghost use Rattle.clay_words.specs.declared.words.Task.TheVariants.{Play};
+ghost use Rattle.clay_words.specs.declared.numbers_of_words.Task.TheVariants.{Play};
 
 use crate::Status;
 use crate::output::Output;

@@ -2,7 +2,7 @@
 ghost use Rattle.std.specs.Prelude.{◌<◌, IfOk};
 ghost use Rattle.clay_aloof.specs.Shape.{all_chunks};
 ghost use Rattle.clay_cli.specs.Top.{IsAnswer, IsOfInput};
-ghost use Rattle.clay_words.specs.declared.words.Task.TheVariants.{AloofRepair};
+ghost use Rattle.clay_words.specs.declared.numbers_of_words.Task.TheVariants.{AloofRepair};
 
 use crate::Status;
 use crate::output::Output;

@@ -5,7 +5,7 @@ ghost use Rattle.hist_rules.specs.Verdict.{verdict_of};
 ghost use Rattle.hist_check.specs.VerdictText.{verdict_line};
 ghost use Rattle.clay_cli.specs.Top.{IsAnswer, IsOfInput};
 ghost use Rattle.clay_cli.specs.Verify.{line_count};
-ghost use Rattle.clay_words.specs.declared.words.Task.TheVariants.{Verify};
+ghost use Rattle.clay_words.specs.declared.numbers_of_words.Task.TheVariants.{Verify};
 
 use crate::Status;
 use crate::output::Output;

@@ -4,7 +4,7 @@ use Rattle.clay_grid.specs.Shape.{Shape, node_count, layer_count}
 use Rattle.clay_model.specs.Sums.{weighted_sum, present_value}
 use Rattle.clay_model.specs.Points.{byte_of, HaveSums}
 use borrow.Rule.Slice.PartMut.{put_mid}
-use Rattle.clay_decode.specs.declared.plan.PlainDecodePlan.{PlainDecodePlan}
+use Rattle.clay_decode.specs.declared.plain_plan.PlainDecodePlan.{PlainDecodePlan}
 use Rattle.clay_decode.specs.Plan.{IsPlan}
 use Rattle.code_laws.specs.Solved.{HoldsPresent, HoldsLayer}
 use Rattle.code_laws.proofs.Layer.{layer_written}

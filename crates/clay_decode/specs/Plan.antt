@@ -7,7 +7,7 @@ use Rattle.clay_grid.specs.Score.{IsByScore}
 use Rattle.clay_model.specs.Erased.{erased_below}
 use Rattle.clay_model.specs.Left.{AreLeft}
 use Rattle.code_laws.specs.Solved.{is_erased, HoldsLayer, HoldsLower}
-use Rattle.clay_decode.specs.declared.plan.PlainDecodePlan.{PlainDecodePlan}
+use Rattle.clay_decode.specs.declared.plain_plan.PlainDecodePlan.{PlainDecodePlan}
 
 -- the erased nodes, their interpolation, the order of the layers, and a subchunk of zeros, for chunks of which few enough are missing
 pub record IsPlan (g : Shape) (have : List (Option (Vec ℕ Global))) (plan : PlainDecodePlan) : Type 0 where

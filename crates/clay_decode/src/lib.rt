@@ -2,11 +2,11 @@
 //! Yield an MSR Code", FAST 2018, section 4).
 #![tactic(auto)]
 
-mod checked;
-mod chunks;
-mod layers;
-mod plan;
+mod plain_checked;
+mod plain_layers;
+mod plain_missing;
+mod plain_plan;
 
-pub use checked::decode_checked;
-pub use chunks::decode;
 pub use clay_model::{CheckedFault, DecodeFault};
+pub use plain_checked::decode_checked;
+pub use plain_missing::decode;

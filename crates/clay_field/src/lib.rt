@@ -5,9 +5,9 @@
 ghost use Rattle.std.specs.Prelude.{◌≡◌, ◌≢◌, EachIndex, slice_index, length, bit_xor};
 ghost use Rattle.clay_field.specs.Field.{product, power_of, inverse_of};
 
-mod laws;
+mod laws_of_the_field;
 
-pub use laws::{coupling_values, product_laws, sum_laws, two_generates};
+pub use laws_of_the_field::{coupling_values, product_laws, sum_laws, two_generates};
 
 /// At each nonzero byte, the byte whose product with it is 1.
 const INVERSES: [u8; 256] = [

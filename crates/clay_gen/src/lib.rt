@@ -2,9 +2,9 @@
 //! steps, drawn one after another from one sequence of numbers.
 #![tactic(auto)]
 
-mod call;
+mod random_calls;
+mod random_script;
 mod schedule;
-mod script;
 mod sequence;
 
-pub use script::{MAX_GENERATED, generate};
+pub use random_script::{MAX_GENERATED, generate};

@@ -6,8 +6,8 @@ use Rattle.std.proofs.Math.Nat.{mul_comm, mul-le-mul, mul-le-mul_right, pow-le-p
 use Rattle.std.specs.Int.{div_ceil}
 use Rattle.clay_grid.specs.Shape.{Shape, chunk_count, row_count, column_count, node_count, virtual_count, layer_count, chunk_length, node_of_chunk}
 use Rattle.clay_grid.specs.Limits.{IsWithinLimits, IsFirstFault, IsGeometry}
-use Rattle.clay_grid.specs.declared.fault.BadGeometry.{BadGeometry}
-use Rattle.clay_grid.specs.declared.fault.BadGeometry.TheVariants.{DataCount, ParityCount, Layers, Width, ChunkSize}
+use Rattle.clay_grid.specs.declared.geometry_fault.BadGeometry.{BadGeometry}
+use Rattle.clay_grid.specs.declared.geometry_fault.BadGeometry.TheVariants.{DataCount, ParityCount, Layers, Width, ChunkSize}
 
 -- the columns of the data chunks, rounded up, and one more
 pub column_count-is : (k m : ℕ) → 0 < m → k / m + min 1 (k % m) + 1 ≡ (k + m + m - 1) / m

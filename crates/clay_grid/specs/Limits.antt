@@ -1,8 +1,8 @@
 -- The limits of a shape, and what follows from them.
 use Rattle.std.specs.Prelude.{◌≡◌, ℕ, ◌<◌, ◌≤◌, ◌⊎◌}
 use Rattle.clay_grid.specs.Shape.{Shape, chunk_count, row_count, column_count, node_count, virtual_count, layer_count, chunk_length, stripe_length}
-use Rattle.clay_grid.specs.declared.fault.BadGeometry.{BadGeometry}
-use Rattle.clay_grid.specs.declared.fault.BadGeometry.TheVariants.{DataCount, ParityCount, Layers, Width, ChunkSize}
+use Rattle.clay_grid.specs.declared.geometry_fault.BadGeometry.{BadGeometry}
+use Rattle.clay_grid.specs.declared.geometry_fault.BadGeometry.TheVariants.{DataCount, ParityCount, Layers, Width, ChunkSize}
 
 pub record IsWithinLimits (g : Shape) : Type 0 where
   pub data_chunks : 2 ≤ g.data_count

@@ -7,7 +7,7 @@ ghost use Rattle.clay_grid.specs.Score.{score_at, IsByScore, places_of};
 ghost use Rattle.clay_grid.specs.Repair.{all_layers, repair_layers_of};
 ghost use Rattle.clay_grid.specs.Limits.{IsFirstFault, IsGeometry};
 
-use crate::fault::BadGeometry;
+use crate::geometry_fault::BadGeometry;
 use std::alloc::{AllocError, Global};
 use std::marker::Model;
 

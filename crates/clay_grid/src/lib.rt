@@ -3,10 +3,10 @@
 //! section 3), with `d = n - 1` helpers and shortening by virtual nodes.
 #![tactic(auto)]
 
-mod fault;
 mod geometry;
-mod laws;
+mod geometry_fault;
+mod laws_of_the_grid;
 
-pub use fault::BadGeometry;
 pub use geometry::{Geometry, Vertex};
-pub use laws::{fault_law, layer_laws, limit_law, partner_law, repair_law, score_law};
+pub use geometry_fault::BadGeometry;
+pub use laws_of_the_grid::{fault_law, layer_laws, limit_law, partner_law, repair_law, score_law};

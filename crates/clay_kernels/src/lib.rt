@@ -2,11 +2,11 @@
 #![tactic(auto)]
 
 mod blocks;
-mod coupling;
 mod kernels;
 mod products;
+mod slice_coupling;
 
 pub use blocks::{BLOCK, column_room, zeros};
-pub use coupling::{couple, cross, double, fifths, halves, uncouple, uncouple_from};
 pub use kernels::add_rows;
 pub use products::Products;
+pub use slice_coupling::{couple, cross, double, fifths, halves, uncouple, uncouple_from};

@@ -3,7 +3,7 @@ ghost use Rattle.std.specs.Prelude.{◌≡◌, ℕ, ◌*◌, ◌%◌, ◌<◌, s
 ghost use Rattle.clay_field.specs.Field.{product};
 ghost use Rattle.clay_kernels.specs.Lanes.{HasLanes};
 
-use crate::coupling::twice;
+use crate::slice_coupling::twice;
 use clay_field::mul;
 use std::marker::Model;
 use std::simd::prelude::*;

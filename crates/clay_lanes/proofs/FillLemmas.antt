@@ -23,10 +23,10 @@ use Rattle.clay_lanes.specs.Recovered.{IsPlanFor}
 use Rattle.clay_lanes.specs.Places.{KeepsPlaces}
 use Rattle.clay_lanes.specs.Fillings.{IsPlanned, IsFilling, pieces_in, KeepsOthers}
 use Rattle.clay_lanes.specs.Standing.{starts_left, left_count, is_left_gone, left_pieces, pieces_around, IsRoom, IsRoomAround, StandInPlace}
-use Rattle.clay_lanes.specs.declared.plan.DecodePlan.{DecodePlan}
-use Rattle.clay_lanes.specs.declared.places.Left.{Left}
-use Rattle.clay_lanes.specs.declared.places.Filling.{Filling}
-use Rattle.clay_lanes.specs.declared.places.Left.TheVariants.{Apart, Among}
+use Rattle.clay_lanes.specs.declared.recovery_plan.DecodePlan.{DecodePlan}
+use Rattle.clay_lanes.specs.declared.chunk_filling.Left.{Left}
+use Rattle.clay_lanes.specs.declared.chunk_filling.Filling.{Filling}
+use Rattle.clay_lanes.specs.declared.chunk_filling.Left.TheVariants.{Apart, Among}
 use Rattle.clay_lanes.proofs.Shown.{none_at, bytes_of}
 
 -- ---- as many pass in two lists

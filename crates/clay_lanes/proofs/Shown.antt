@@ -15,7 +15,7 @@ use Rattle.code_laws.proofs.Nodes.{few_points}
 use Rattle.lane_repair.specs.Pieces.{HoldsByte}
 use Rattle.clay_lanes.specs.Present.{AreChunks, FitsChunks, is_gone}
 use Rattle.clay_lanes.specs.Recovered.{IsPlanFor, HoldsLayerRows, AreRowsOfLayers, AreNext, missing_of}
-use Rattle.clay_lanes.specs.declared.plan.DecodePlan.{DecodePlan}
+use Rattle.clay_lanes.specs.declared.recovery_plan.DecodePlan.{DecodePlan}
 
 -- ---- which entries are none
 

@@ -6,7 +6,7 @@ use Rattle.clay_lanes.specs.Present.{AreChunks, FitsChunks, is_gone}
 use Rattle.clay_lanes.specs.Recovered.{IsPlanFor, HoldsLayerRows}
 use Rattle.clay_lanes.specs.Places.{HoldsPlace, KeepsPlaces, chunks_length}
 use Rattle.clay_lanes.specs.Standing.{left_pieces, pieces_around, StandInPlace}
-use Rattle.clay_lanes.specs.declared.places.Filling.{Filling}
+use Rattle.clay_lanes.specs.declared.chunk_filling.Filling.{Filling}
 
 -- positions of a subchunk, with the plan of the missing chunks
 pub record IsPlanned (filling : Filling) (pieces : List (Option (List ℕ))) : Type 0 where

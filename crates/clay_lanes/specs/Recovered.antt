@@ -11,7 +11,7 @@ use Rattle.clay_model.specs.Left.{AreLong, Completes}
 use Rattle.code_laws.specs.Solved.{is_erased, uncoupled_byte}
 use Rattle.generator_matrix.specs.Generated.{IsGeneratorOf}
 use Rattle.lane_repair.specs.Pieces.{HoldsByte}
-use Rattle.clay_lanes.specs.declared.plan.DecodePlan.{DecodePlan}
+use Rattle.clay_lanes.specs.declared.recovery_plan.DecodePlan.{DecodePlan}
 
 -- the gone nodes, which are few enough, the factors of every node in their values, the order of the layers, a subchunk of zeros, and the
 -- products of the inverse of 5

@@ -5,8 +5,8 @@ use Rattle.std.specs.List.{range_with_len}
 use Rattle.clay_grid.specs.Shape.{Shape, chunk_length}
 use Rattle.clay_model.specs.Left.{parts}
 use Rattle.lane_repair.specs.Views.{laid_pieces, EndWithin, piece_around, StandsAround}
-use Rattle.clay_lanes.specs.declared.places.Left.{Left}
-use Rattle.clay_lanes.specs.declared.places.Left.TheVariants.{Apart, Among}
+use Rattle.clay_lanes.specs.declared.chunk_filling.Left.{Left}
+use Rattle.clay_lanes.specs.declared.chunk_filling.Left.TheVariants.{Apart, Among}
 
 -- where each chunk that isn't missing begins among all chunks, of the first of them
 abbrev pub starts_left : Shape → List Bool → ℕ → List (Option ℕ)

@@ -2,7 +2,7 @@
 ghost use Rattle.std.specs.Prelude.{◌≡◌, ◌*◌, ◌≤◌, length, IfOk};
 ghost use Rattle.clay_grid.specs.Shape.{layer_count};
 
-use crate::plan::DecodePlan;
+use crate::recovery_plan::DecodePlan;
 use clay_grid::Geometry;
 use clay_kernels::zeros;
 use lane_repair::ChunkView;

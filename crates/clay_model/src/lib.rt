@@ -5,14 +5,14 @@
 
 mod coder;
 mod coupling;
-mod fault;
-mod laws;
+mod decode_fault;
+mod laws_of_codewords;
 mod partners;
 
 pub use coder::Coder;
 pub use coupling::{couple, cross, uncouple, uncouple_from};
-pub use fault::{CheckedFault, DecodeFault};
-pub use laws::{
+pub use decode_fault::{CheckedFault, DecodeFault};
+pub use laws_of_codewords::{
     codewords_are_unique, coupling_is_inverse, layers_are_numbered, stripes_hold_the_bytes,
     worked_codewords,
 };

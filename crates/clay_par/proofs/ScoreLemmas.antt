@@ -15,7 +15,7 @@ use Rattle.clay_model.specs.Left.{Completes}
 use Rattle.code_laws.specs.Solved.{uncoupled_byte}
 use Rattle.code_laws.proofs.Layer.{lower_earlier}
 use Rattle.clay_lanes.specs.Recovered.{HoldsLayerRows, HoldsLower, AreRowsOfLayers}
-use Rattle.clay_lanes.specs.declared.plan.DecodePlan.{DecodePlan}
+use Rattle.clay_lanes.specs.declared.recovery_plan.DecodePlan.{DecodePlan}
 use Rattle.clay_par.specs.Scores.{IsRun, HoldsFirst, IsRowByte, IsShare}
 
 -- the place of byte b of row e in layer n

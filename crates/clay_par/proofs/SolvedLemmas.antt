@@ -9,7 +9,7 @@ use Rattle.clay_model.specs.Left.{Completes}
 use Rattle.lane_repair.specs.Pieces.{HoldsByte}
 use Rattle.clay_lanes.specs.Recovered.{HoldsLayerRows}
 use Rattle.clay_lanes.specs.Places.{AreFilled}
-use Rattle.clay_lanes.specs.declared.plan.DecodePlan.{DecodePlan}
+use Rattle.clay_lanes.specs.declared.recovery_plan.DecodePlan.{DecodePlan}
 use Rattle.clay_par.specs.Ranges.{HasRoom}
 use Rattle.clay_par.specs.Solved.{HoldsLayers, IsChunk, IsFilled}
 use Rattle.clay_par.specs.declared.ranges.Range.{Range}

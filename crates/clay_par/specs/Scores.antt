@@ -6,7 +6,7 @@ use Rattle.clay_grid.specs.Score.{score_at}
 use Rattle.clay_model.specs.Left.{Completes}
 use Rattle.code_laws.specs.Solved.{uncoupled_byte}
 use Rattle.clay_lanes.specs.Recovered.{HoldsLayerRows}
-use Rattle.clay_lanes.specs.declared.plan.DecodePlan.{DecodePlan}
+use Rattle.clay_lanes.specs.declared.recovery_plan.DecodePlan.{DecodePlan}
 
 -- layers of one score, as many as count, from a place in the order on
 pub record IsRun (g : Shape) (plan : DecodePlan) (from count : ℕ) : Type 0 where

@@ -5,7 +5,7 @@ use Rattle.clay_grid.specs.Shape.{Shape, layer_count, chunk_length}
 use Rattle.clay_model.specs.Left.{Completes}
 use Rattle.lane_repair.specs.Pieces.{HoldsByte}
 use Rattle.clay_lanes.specs.Recovered.{HoldsLayerRows}
-use Rattle.clay_lanes.specs.declared.plan.DecodePlan.{DecodePlan}
+use Rattle.clay_lanes.specs.declared.recovery_plan.DecodePlan.{DecodePlan}
 use Rattle.clay_par.specs.declared.ranges.Range.{Range}
 use Rattle.clay_par.specs.Ranges.{HasRoom, IsCovered}
 

@@ -7,7 +7,7 @@ ghost use Rattle.clay_parity.specs.Blocks.{coupled_byte, piece_bytes};
 ghost use Rattle.clay_parity.specs.Short.{short_coupled};
 ghost use Rattle.clay_parity.specs.Flat.{WritesGroup, HoldsAllGroups, IsParity};
 
-use crate::chunks::{SHORT, block, solve_layers, solve_rows};
+use crate::parity_layers::{SHORT, block, solve_layers, solve_rows};
 use crate::prepared::Prepared;
 use crate::short::couple_row;
 use clay_grid::Geometry;

@@ -3,8 +3,8 @@ ghost use Rattle.std.specs.Prelude.{◌≡◌, ◌*◌, length, IfOk, OnOk, OnEr
 ghost use Rattle.clay_grid.specs.Shape.{chunk_length, stripe_length};
 ghost use Rattle.clay_parity.specs.Flat.{IsParity};
 
-use crate::chunks::last_column;
 use crate::flat::write_parity;
+use crate::parity_layers::last_column;
 use clay_grid::Geometry;
 use generator_matrix::Generator;
 use std::alloc::{AllocError, Global};

@@ -4,7 +4,7 @@ use Rattle.std.specs.List.{range_with_len}
 use Rattle.clay_grid.specs.Shape.{Shape, chunk_count, row_count, node_count, node_of_chunk}
 use Rattle.clay_grid.specs.Limits.{IsGeometry}
 use Rattle.clay_grid.specs.Repair.{repair_layers_of}
-use Rattle.clay_repair.specs.declared.plan.PlainRepairPlan.{PlainRepairPlan}
+use Rattle.clay_repair.specs.declared.plain_repair_plan.PlainRepairPlan.{PlainRepairPlan}
 
 -- the lost node's place, the nodes of its column, the layers that are read, and a subchunk of zeros
 pub record IsPlan (g : Shape) (plan : PlainRepairPlan) : Type 0 where

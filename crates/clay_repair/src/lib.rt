@@ -2,12 +2,12 @@
 //! 2018), and coders: what codes the stripes of a store.
 #![tactic(auto)]
 
-mod laws;
-mod lost;
+mod laws_of_plain_repairs;
 mod plain;
-mod plan;
+mod plain_lost;
+mod plain_repair_plan;
 
 pub use clay_model::Coder;
-pub use laws::{parts_have_their_bytes, worked_repairs};
-pub use lost::rebuild;
+pub use laws_of_plain_repairs::{parts_have_their_bytes, worked_repairs};
 pub use plain::PlainCoder;
+pub use plain_lost::rebuild;

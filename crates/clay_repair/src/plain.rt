@@ -1,5 +1,5 @@
 //! The coder of one thread.
-use crate::lost::rebuild;
+use crate::plain_lost::rebuild;
 use clay_decode::decode;
 use clay_grid::Geometry;
 use clay_model::{Coder, DecodeFault};

@@ -8,14 +8,14 @@ mod disk;
 mod folder;
 mod join_command;
 mod mend_command;
-mod program;
 mod share_file;
+mod share_program;
+mod share_words;
 mod tell;
-mod words;
 
 use std::io::IsTerminal;
 use std::process::ExitCode;
 
 fn main(rt: HostRuntime) -> ExitCode {
-    program::run(&rt, rt.stderr().is_terminal())
+    share_program::run(&rt, rt.stderr().is_terminal())
 }

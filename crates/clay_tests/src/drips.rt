@@ -1,6 +1,6 @@
 //! Calls of the program over a source that gives a byte a call and a sink that takes one, by a coder that counts.
+use crate::command_runs::{Ran, run_with};
 use crate::meeting::MeetingGate;
-use crate::runs::{Ran, run_with};
 use clay_bytes::{DripSink, DripSource};
 use clay_par::ParCoder;
 use std::alloc::Global;

@@ -3,17 +3,19 @@
 #![tactic(auto)]
 
 #[cfg(test)]
-mod by_threads;
+mod coding_commands;
 #[cfg(test)]
-mod coders;
+mod command_coders;
 #[cfg(test)]
-mod coding;
+mod command_faults;
+#[cfg(test)]
+mod command_runs;
+#[cfg(test)]
+mod command_scripts;
 #[cfg(test)]
 mod drips;
 #[cfg(test)]
-mod faults;
-#[cfg(test)]
-mod generate;
+mod gen_command;
 #[cfg(test)]
 mod meeting;
 #[cfg(test)]
@@ -21,12 +23,10 @@ mod meetings;
 #[cfg(test)]
 mod piped;
 #[cfg(test)]
-mod play;
-#[cfg(test)]
-mod runs;
-#[cfg(test)]
-mod scripts;
+mod play_command;
 #[cfg(test)]
 mod tables;
 #[cfg(test)]
-mod verify;
+mod threads_command;
+#[cfg(test)]
+mod verify_command;

@@ -1,6 +1,6 @@
 //! The command `run` with its threads at two servers at once.
+use crate::command_runs::run_by;
 use crate::meeting::MeetingGate;
-use crate::runs::run_by;
 use clay_cli::Status;
 use std::sync::Wait;
 use std::test::Fail;

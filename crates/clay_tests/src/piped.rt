@@ -1,11 +1,11 @@
 //! What `play` and `run` print for the scripts of the examples, put behind its script, is legal to `verify`.
-use crate::runs::{Ran, run};
+use crate::command_runs::{Ran, run};
 use clay_cli::Status;
 use std::sync::Wait;
 use std::test::Fail;
 use std::thread::Threads;
-use text_tables::faults::rows_of;
-use text_tables::lines::unfolded;
+use text_tables::fault_tables::rows_of;
+use text_tables::table_lines::unfolded;
 
 // The scripts of the examples, parted by `|`.
 const EXAMPLES: &[u8] = b"\

@@ -1,10 +1,10 @@
 //! Tables of inputs with what a command says of them, each a text: a table that is an array is proved row by row.
-use crate::runs::run;
+use crate::command_runs::run;
 use std::str;
 use std::sync::Wait;
 use std::test::Fail;
 use std::thread::Threads;
-use text_tables::faults::{Around, joined, parts, rows_of};
+use text_tables::fault_tables::{Around, joined, parts, rows_of};
 
 /// Nothing stands around an input.
 pub const ALONE: Around<'static> = Around {

@@ -6,7 +6,7 @@ use Rattle.clap.specs.declared.parser.matches.Found.{Found}
 use Rattle.clap.proofs.WalkLemmas.{first_value-rows}
 use Rattle.clay_words.specs.Names.{ids_of, word_of}
 use Rattle.clay_words.specs.Spelled.{Hold, HoldsNumbers}
-use Rattle.clay_words.specs.declared.names.Name.{Name}
+use Rattle.clay_words.specs.declared.word_names.Name.{Name}
 use Rattle.clay_words.proofs.Lengths.{OfWords, by_length}
 
 pub not_both : {A : Type 0} (o : Option A) (x : A) → o ≡ None → o ≡ Some x → ⊥

@@ -4,8 +4,8 @@ use Rattle.std.specs.Prelude.{Bool, true, false, ◌&&◌, if◌then◌else◌}
 use Rattle.std.specs.Str.{bytes_eq}
 use Rattle.std.proofs.lemmas.Bool.{eq-eqb}
 use Rattle.clay_words.specs.Names.{all_names, word_of}
-use Rattle.clay_words.specs.declared.names.Name.{Name}
-use Rattle.clay_words.specs.declared.names.Name.TheVariants.{Play, Run, Verify, Chunks, Recover, Generate, Trial, AloofChunks, AloofRepair}
+use Rattle.clay_words.specs.declared.word_names.Name.{Name}
+use Rattle.clay_words.specs.declared.word_names.Name.TheVariants.{Play, Run, Verify, Chunks, Recover, Generate, Trial, AloofChunks, AloofRepair}
 
 name_at : List ℕ → Name
 name_at word =

@@ -7,7 +7,7 @@ use Rattle.clap.specs.Words.{AddsArg, AddsSubcommand, App, Text, rule_of, with_r
 use Rattle.clap.specs.declared.builder.Arg.{Arg}
 use Rattle.clap.specs.declared.builder.Command.{Command}
 use Rattle.clay_words.specs.Grammar.{IsApp, command_app, number_rule, with_command, with_number}
-use Rattle.clay_words.specs.declared.names.Name.{Name}
+use Rattle.clay_words.specs.declared.word_names.Name.{Name}
 
 -- the argument is a number's
 pub record IsNumber (arg : Arg) (id : Text) : Type 0 where

@@ -8,10 +8,10 @@ use Rattle.std.proofs.lemmas.Str.Parse.{IsNumeralModel, numerals_by_value, tells
 use Rattle.clay_grid.specs.Shape.{Shape, shape_of}
 use Rattle.clay_aloof.specs.Shape.{AloofShape, all_chunks, aloof_of}
 use Rattle.clay_words.specs.Words.{AreAloofWords, AreCodeWords, Asks, AsksNothing, IsAloofCode, IsCode, IsWithinBounds}
-use Rattle.clay_words.specs.declared.words.Command.{Command}
-use Rattle.clay_words.specs.declared.words.Command.TheVariants.{Generate, Trial, OfInput}
-use Rattle.clay_words.specs.declared.words.Task.{Task}
-use Rattle.clay_words.specs.declared.words.Task.TheVariants.{Play, Run, Verify, Chunks, Recover, AloofChunks, AloofRepair}
+use Rattle.clay_words.specs.declared.numbers_of_words.Command.{Command}
+use Rattle.clay_words.specs.declared.numbers_of_words.Command.TheVariants.{Generate, Trial, OfInput}
+use Rattle.clay_words.specs.declared.numbers_of_words.Task.{Task}
+use Rattle.clay_words.specs.declared.numbers_of_words.Task.TheVariants.{Play, Run, Verify, Chunks, Recover, AloofChunks, AloofRepair}
 use Rattle.clay_words.proofs.WordLaws.{aloof_numbers, code_numbers, same_aloof, same_code}
 
 own : IsNumeralModel (AllDigits 10) (digits_value 10)

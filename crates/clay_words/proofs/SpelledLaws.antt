@@ -9,7 +9,7 @@ use Rattle.std.proofs.lemmas.List.Elements.{All-cons, All-head, All-nil, All-tai
 use Rattle.line_grammar.specs.Numbers.{IsNumberWord}
 use Rattle.clay_words.specs.Names.{ids_of, word_of}
 use Rattle.clay_words.specs.Spelled.{IsSpelled}
-use Rattle.clay_words.specs.declared.names.Name.{Name}
+use Rattle.clay_words.specs.declared.word_names.Name.{Name}
 
 module _ {W : Type 0} (bytes : W → List ℕ) where
   pub to_recursion : (words : List W) → All (λ word. IsNumberWord (bytes word)) words → AllByRecursion IsNumberWord (map bytes words)

@@ -16,8 +16,8 @@ use Rattle.clap.proofs.OnLiterals.{clap_on_literals}
 use Rattle.clay_words.specs.Grammar.{clay_app, command_app}
 use Rattle.clay_words.specs.Names.{ids_of, word_of}
 use Rattle.clay_words.specs.Spelled.{Hold, IsSpelled, IsTaken}
-use Rattle.clay_words.specs.declared.names.Name.{Name}
-use Rattle.clay_words.specs.declared.names.Name.TheVariants.{Play, Run, Verify, Chunks, Recover, Generate, Trial, AloofChunks, AloofRepair}
+use Rattle.clay_words.specs.declared.word_names.Name.{Name}
+use Rattle.clay_words.specs.declared.word_names.Name.TheVariants.{Play, Run, Verify, Chunks, Recover, Generate, Trial, AloofChunks, AloofRepair}
 use Rattle.clay_words.proofs.Lengths.{by_length}
 use Rattle.clay_words.proofs.Stops.{found_by, stop, taken_by, top_passes}
 use Rattle.clay_words.proofs.Walks.{AllGo, all_held, all_pass, held_after}

@@ -7,11 +7,11 @@ use Rattle.clay_grid.specs.Shape.{Shape}
 use Rattle.clay_aloof.specs.Shape.{AloofShape}
 use Rattle.clay_words.specs.Spelled.{IsSpelled}
 use Rattle.clay_words.specs.Words.{Asks, AsksNothing, IsCode, IsAloofCode}
-use Rattle.clay_words.specs.declared.words.Command.{Command}
-use Rattle.clay_words.specs.declared.words.Command.TheVariants.{OfInput}
-use Rattle.clay_words.specs.declared.words.Command.TheVariants as command
-use Rattle.clay_words.specs.declared.words.Task.TheVariants as task
-use Rattle.clay_words.specs.declared.names.Name.TheVariants.{Play, Run, Verify, Chunks, Recover, Generate, Trial, AloofChunks, AloofRepair}
+use Rattle.clay_words.specs.declared.numbers_of_words.Command.{Command}
+use Rattle.clay_words.specs.declared.numbers_of_words.Command.TheVariants.{OfInput}
+use Rattle.clay_words.specs.declared.numbers_of_words.Command.TheVariants as command
+use Rattle.clay_words.specs.declared.numbers_of_words.Task.TheVariants as task
+use Rattle.clay_words.specs.declared.word_names.Name.TheVariants.{Play, Run, Verify, Chunks, Recover, Generate, Trial, AloofChunks, AloofRepair}
 use Rattle.clay_words.proofs.WordLaws.{aloof_numbers, code_numbers}
 
 number : (word : List ℕ) (n : ℕ) → n < 2 ^ 64 → word ≡ decimal n → IsNumberWord word

@@ -4,12 +4,12 @@ use Rattle.std.proofs.lemmas.Bool.{cases_lt}
 use Rattle.std.proofs.lemmas.Fmt.{decimal_injective}
 use Rattle.clay_grid.specs.Shape.{Shape}
 use Rattle.clay_grid.specs.Limits.{IsWithinLimits, IsFirstFault}
-use Rattle.clay_grid.specs.declared.fault.BadGeometry.{BadGeometry}
-use Rattle.clay_grid.specs.declared.fault.BadGeometry.TheVariants.{DataCount, ParityCount, Layers, Width, ChunkSize}
+use Rattle.clay_grid.specs.declared.geometry_fault.BadGeometry.{BadGeometry}
+use Rattle.clay_grid.specs.declared.geometry_fault.BadGeometry.TheVariants.{DataCount, ParityCount, Layers, Width, ChunkSize}
 use Rattle.clay_grid.proofs.LimitLaws.{IsGeometry-limits}
 use Rattle.clay_aloof.specs.Shape.{AloofShape, aloof_of}
 use Rattle.clay_aloof.specs.Limits as aloof
-use Rattle.clay_aloof.specs.declared.fault.BadAloof.{BadAloof}
+use Rattle.clay_aloof.specs.declared.aloof_fault.BadAloof.{BadAloof}
 use Rattle.clay_aloof.proofs.Faults.{fault_outside}
 use Rattle.clay_aloof.proofs.Many.{too_many}
 use Rattle.clay_words.specs.Words.{IsAloofCode, IsCode}

@@ -5,7 +5,7 @@ use Rattle.clap.specs.Simple.{on_top}
 use Rattle.clap.specs.declared.builder.Command.{Command}
 use Rattle.clap.specs.declared.builder.Command.TheViews.{out-Command as fields_of}
 use Rattle.clay_words.specs.Names.{all_names, ids_of, word_of}
-use Rattle.clay_words.specs.declared.names.Name.{Name}
+use Rattle.clay_words.specs.declared.word_names.Name.{Name}
 
 -- a word that must stand there
 abbrev pub number_rule : Text → Rule

@@ -1,7 +1,7 @@
 -- The names of the commands, and those that their numbers are held under.
 use Rattle.std.specs.Prelude.{ℕ, List, [], ◌∷◌, codes}
-use Rattle.clay_words.specs.declared.names.Name.{Name}
-use Rattle.clay_words.specs.declared.names.Name.TheVariants.{Play, Run, Verify, Chunks, Recover, Generate, Trial, AloofChunks, AloofRepair}
+use Rattle.clay_words.specs.declared.word_names.Name.{Name}
+use Rattle.clay_words.specs.declared.word_names.Name.TheVariants.{Play, Run, Verify, Chunks, Recover, Generate, Trial, AloofChunks, AloofRepair}
 
 -- all of them
 abbrev pub all_names : List Name

@@ -6,7 +6,7 @@ use Rattle.clap.specs.Words.{Row, Text, first_of, found_of, rows_of, subcommand_
 use Rattle.clap.specs.declared.parser.matches.ArgMatches.{ArgMatches}
 use Rattle.clay_words.specs.Grammar.{clay_app}
 use Rattle.clay_words.specs.Names.{ids_of, word_of}
-use Rattle.clay_words.specs.declared.names.Name.{Name}
+use Rattle.clay_words.specs.declared.word_names.Name.{Name}
 
 -- as many numbers as the command has
 abbrev pub AreNumbers : Name → List Text → Type 0

@@ -4,10 +4,10 @@ use Rattle.clay_grid.specs.Shape.{Shape}
 use Rattle.clay_grid.specs.Limits.{IsWithinLimits}
 use Rattle.clay_aloof.specs.Shape.{AloofShape, all_chunks}
 use Rattle.clay_aloof.specs.Limits as aloof
-use Rattle.clay_words.specs.declared.words.Command.{Command}
-use Rattle.clay_words.specs.declared.words.Command.TheVariants.{Generate, Trial, OfInput}
-use Rattle.clay_words.specs.declared.words.Task.{Task}
-use Rattle.clay_words.specs.declared.words.Task.TheVariants.{Play, Run, Verify, Chunks, Recover, AloofChunks, AloofRepair}
+use Rattle.clay_words.specs.declared.numbers_of_words.Command.{Command}
+use Rattle.clay_words.specs.declared.numbers_of_words.Command.TheVariants.{Generate, Trial, OfInput}
+use Rattle.clay_words.specs.declared.numbers_of_words.Task.{Task}
+use Rattle.clay_words.specs.declared.numbers_of_words.Task.TheVariants.{Play, Run, Verify, Chunks, Recover, AloofChunks, AloofRepair}
 
 -- three words spell the numbers of a code within its limits
 pub record IsCode (g : Shape) (k m w : List ℕ) : Type 0 where

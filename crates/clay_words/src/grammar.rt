@@ -3,7 +3,7 @@ ghost use Rattle.std.specs.Prelude.{◌≡◌, false, IfOk};
 ghost use Rattle.clap.specs.Words.{app_of, rule_of};
 ghost use Rattle.clay_words.specs.Grammar.{IsApp, bare_app, clay_app, command_app, number_rule};
 
-use crate::names::{NAMES, Name};
+use crate::word_names::{NAMES, Name};
 use clap::{Arg, Command};
 use std::alloc::{AllocError, Global};
 

@@ -2,12 +2,12 @@
 #![tactic(auto)]
 
 mod grammar;
-mod laws;
-mod names;
+mod laws_of_words;
+mod numbers_of_words;
 mod parse;
 mod spelled;
-mod words;
+mod word_names;
 
-pub use laws::words_ask_for_one_command;
+pub use laws_of_words::words_ask_for_one_command;
+pub use numbers_of_words::{Command, Task};
 pub use parse::command_of;
-pub use words::{Command, Task};

@@ -7,9 +7,11 @@ ghost use Rattle.clay_words.specs.Spelled.{AreHeld, Hold, HoldsNumbers, IsSpelle
 ghost use Rattle.clay_words.specs.Words.{IsAskedBy, IsAloofCode, IsCode};
 
 use crate::grammar::clay_grammar;
-use crate::names::{Name, name_of};
+use crate::numbers_of_words::{
+    Command, Task, aloof_geometry_of, chunk_of, geometry_of, number_of, start_of,
+};
 use crate::spelled::is_spelled;
-use crate::words::{Command, Task, aloof_geometry_of, chunk_of, geometry_of, number_of, start_of};
+use crate::word_names::{Name, name_of};
 use clap::ArgMatches;
 use clap::error::ErrorKind;
 use clay_aloof::AloofGeometry;

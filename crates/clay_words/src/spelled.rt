@@ -3,7 +3,7 @@ ghost use Rattle.std.specs.Prelude.{◌↔◌, All, map, string_bytes, IsTrue};
 ghost use Rattle.line_grammar.specs.Numbers.{IsNumberWord};
 ghost use Rattle.clay_words.specs.Spelled.{IsSpelled};
 
-use crate::names::name_of;
+use crate::word_names::name_of;
 use line_grammar::is_number;
 
 // Whether each word is a number's.

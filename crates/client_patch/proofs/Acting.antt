@@ -25,8 +25,8 @@ use Rattle.client_patch.specs.Patches.{PatchOf, is_change, is_write}
 use Rattle.client_patch.specs.Stages.{state_by, due_by}
 use Rattle.client_patch.specs.Inside.{pairs_in, patch_in, Keeps, IsPatch}
 use Rattle.client_patch.specs.declared.patch.PatchCall.TheInside.{Inside}
-use Rattle.client_patch.specs.declared.stage.PatchStage.{PatchStage}
-use Rattle.client_patch.specs.declared.stage.PatchStage.TheVariants as stage
+use Rattle.client_patch.specs.declared.patch_stage.PatchStage.{PatchStage}
+use Rattle.client_patch.specs.declared.patch_stage.PatchStage.TheVariants as stage
 use Rattle.client_patch.proofs.Gathered.{EndsSo, ungathered_ends}
 use Rattle.client_patch.proofs.Standings.{gathers}
 

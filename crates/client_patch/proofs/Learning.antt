@@ -44,8 +44,8 @@ use Rattle.store_core.specs.Agreement.{Seat, ActorToken}
 use Rattle.store_core.specs.Tokens.{actor_of}
 use Rattle.run_laws.specs.State.{State}
 use Rattle.call_steps.specs.TokenAfter.{token_after, IfInCall}
-use Rattle.stripe_dir.specs.declared.answers.Look.{Look}
-use Rattle.stripe_dir.specs.declared.answers.Look.TheVariants as look_answer
+use Rattle.stripe_dir.specs.declared.directory_answers.Look.{Look}
+use Rattle.stripe_dir.specs.declared.directory_answers.Look.TheVariants as look_answer
 use Rattle.stripe_dir.specs.Shown.{AreShown, stripes_seen}
 use Rattle.client_patch.proofs.Gathered.{known_at}
 use Rattle.client_patch.proofs.OfWrites.{write_kind, put_or_write}

@@ -32,8 +32,8 @@ use Rattle.call_steps.specs.declared.need.Need.TheVariants as need
 use Rattle.call_steps.specs.CallOf.{act_of}
 use Rattle.call_steps.specs.Steps.{need_by, need_of, stepped_at_directory}
 use Rattle.call_steps.specs.TokenAfter.{token_after, IsSeated}
-use Rattle.stripe_dir.specs.declared.answers.Look.{Look}
-use Rattle.stripe_dir.specs.declared.answers.Look.TheVariants as look_answer
+use Rattle.stripe_dir.specs.declared.directory_answers.Look.{Look}
+use Rattle.stripe_dir.specs.declared.directory_answers.Look.TheVariants as look_answer
 use Rattle.gather_parts.specs.Wanted.{Wanted, wanted_of}
 use Rattle.gather_parts.specs.Gatherings.{GatheringsOf, begun}
 use Rattle.gather_parts.specs.States.{state_in}
@@ -48,8 +48,8 @@ use Rattle.client_patch.specs.Inside.{pairs_in, patch_in, Keeps, IsPatch}
 use Rattle.write_course.specs.Holding.{IsHolding, HasToken}
 use Rattle.client_patch.specs.Holds.{PinsNothing}
 use Rattle.client_patch.specs.declared.patch.PatchCall.TheInside.{Inside}
-use Rattle.client_patch.specs.declared.stage.PatchStage.{PatchStage}
-use Rattle.client_patch.specs.declared.stage.PatchStage.TheVariants as stage
+use Rattle.client_patch.specs.declared.patch_stage.PatchStage.{PatchStage}
+use Rattle.client_patch.specs.declared.patch_stage.PatchStage.TheVariants as stage
 use Rattle.write_course.proofs.AtDirectory.{directory_step}
 use Rattle.client_patch.proofs.OfWrites.{not_both}
 use Rattle.client_patch.proofs.Gathered.{EndsSo, ungathered_ends}

@@ -6,8 +6,8 @@ use Rattle.call_steps.specs.Ends.{point_of, finished_of}
 use Rattle.client_patch.specs.Stages.{state_by}
 use Rattle.client_patch.specs.Inside.{Keeps}
 use Rattle.client_patch.specs.declared.patch.PatchCall.TheInside.{Inside}
-use Rattle.client_patch.specs.declared.stage.PatchStage.{PatchStage}
-use Rattle.client_patch.specs.declared.stage.PatchStage.TheVariants as stage
+use Rattle.client_patch.specs.declared.patch_stage.PatchStage.{PatchStage}
+use Rattle.client_patch.specs.declared.patch_stage.PatchStage.TheVariants as stage
 use Rattle.client_patch.proofs.Gathered.{EndsSo, ungathered_ends, gathering_pointless}
 
 pub no_point : (a : Inside) (s : PatchStage) → Keeps s a → (s ≡ stage.Writing → ⊥) → (s ≡ stage.Finished → ⊥) → None ≡ point_of (state_by s a.gatherings a.writing a.outcome)

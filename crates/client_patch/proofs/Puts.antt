@@ -37,8 +37,8 @@ use Rattle.client_patch.specs.Holds.{GathersNothing}
 use Rattle.client_patch.specs.Stages.{state_by}
 use Rattle.client_patch.specs.Inside.{pairs_in, patch_in, Keeps, IsPatch}
 use Rattle.client_patch.specs.declared.patch.PatchCall.TheInside.{Inside}
-use Rattle.client_patch.specs.declared.stage.PatchStage.{PatchStage}
-use Rattle.client_patch.specs.declared.stage.PatchStage.TheVariants as stage
+use Rattle.client_patch.specs.declared.patch_stage.PatchStage.{PatchStage}
+use Rattle.client_patch.specs.declared.patch_stage.PatchStage.TheVariants as stage
 use Rattle.client_patch.proofs.OfWrites.{put_kind, put_or_write, not_both}
 use Rattle.client_patch.proofs.Gathered.{EndsSo, ungathered_ends}
 

@@ -13,8 +13,8 @@ use Rattle.client_patch.specs.Stages.{state_by, due_by}
 use Rattle.call_steps.specs.Ends.{finished_of}
 use Rattle.client_patch.specs.Inside.{Keeps}
 use Rattle.client_patch.specs.declared.patch.PatchCall.TheInside.{Inside}
-use Rattle.client_patch.specs.declared.stage.PatchStage.{PatchStage}
-use Rattle.client_patch.specs.declared.stage.PatchStage.TheVariants as stage
+use Rattle.client_patch.specs.declared.patch_stage.PatchStage.{PatchStage}
+use Rattle.client_patch.specs.declared.patch_stage.PatchStage.TheVariants as stage
 use Rattle.client_patch.proofs.Gathered.{EndsSo, ungathered_ends}
 
 -- a look needs no server, nor the coder

@@ -22,7 +22,7 @@ use Rattle.client_patch.specs.Inside.{pairs_in, patch_in, Keeps, IsPatch}
 use Rattle.write_course.specs.Holding.{HasToken}
 use Rattle.client_patch.specs.Holds.{HasRoom}
 use Rattle.client_patch.specs.declared.patch.PatchCall.TheInside.{Inside}
-use Rattle.client_patch.specs.declared.stage.PatchStage.TheVariants as stage
+use Rattle.client_patch.specs.declared.patch_stage.PatchStage.TheVariants as stage
 use Rattle.client_patch.proofs.Gathered.{asks_up_to_draw, known_at}
 use Rattle.write_course.proofs.Tokens.{stepped_has}
 use Rattle.client_patch.proofs.Rooms.{same_call, stepped_room, known_drawn}

@@ -13,8 +13,8 @@ use Rattle.client_patch.specs.Patches.{PatchOf, is_write, is_put, is_drawing, is
 use Rattle.call_steps.specs.Callers.{IsClient, IsOfScript, IsWaiting}
 use Rattle.client_patch.specs.LookAfter.{IsFresh}
 use Rattle.client_patch.specs.Stages.{state_by, due_by}
-use Rattle.client_patch.specs.declared.stage.PatchStage.{PatchStage}
-use Rattle.client_patch.specs.declared.stage.PatchStage.TheVariants as stage
+use Rattle.client_patch.specs.declared.patch_stage.PatchStage.{PatchStage}
+use Rattle.client_patch.specs.declared.patch_stage.PatchStage.TheVariants as stage
 use Rattle.client_patch.specs.declared.patch.PatchCall.TheInside.{Inside}
 use Rattle.write_course.specs.Holding.{IsHolding, IsPassing, HasToken, IsGivenUp}
 use Rattle.client_patch.specs.Holds.{IsOfCall, IsUngathered, PinsNothing, GathersNothing, HasRoom}

@@ -8,8 +8,8 @@ use Rattle.gather_parts.specs.Gatherings.{GatheringsOf}
 use Rattle.gather_parts.specs.Progress.{is_due}
 use Rattle.gather_parts.specs.States.{state_in}
 use Rattle.write_course.specs.Writings.{WritingOf}
-use Rattle.client_patch.specs.declared.stage.PatchStage.{PatchStage}
-use Rattle.client_patch.specs.declared.stage.PatchStage.TheVariants as stage
+use Rattle.client_patch.specs.declared.patch_stage.PatchStage.{PatchStage}
+use Rattle.client_patch.specs.declared.patch_stage.PatchStage.TheVariants as stage
 
 -- by its stage
 abbrev pub state_by : PatchStage → GatheringsOf → WritingOf → Outcome → State

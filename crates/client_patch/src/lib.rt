@@ -3,10 +3,10 @@
 #![tactic(auto)]
 
 mod bytes;
-mod coding;
-mod directory;
-pub mod laws;
+pub mod laws_of_patches;
 mod patch;
-mod stage;
+mod patch_coding;
+mod patch_directory;
+mod patch_stage;
 
 pub use patch::PatchCall;

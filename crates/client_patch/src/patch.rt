@@ -21,7 +21,7 @@ ghost use Rattle.client_patch.specs.Holds.{IsUngathered};
 ghost use Rattle.client_patch.specs.Known.{KnowsOld};
 ghost use Rattle.client_patch.specs.Patches.{is_patch, is_put, is_change, first_patch};
 
-use crate::stage::PatchStage;
+use crate::patch_stage::PatchStage;
 use call_steps::{Act, Change, DirectoryAct, Need, Outcome, ServerAnswer};
 use chunk_server::Server;
 use dir_tickets::Ticket;

@@ -11,9 +11,9 @@ use Rattle.call_steps.specs.CallOf.{CallOf, act_of, tries_by}
 use Rattle.client_read.specs.Reads.{ReadOf}
 use Rattle.client_read.specs.Stages.{state_by, due_by}
 use Rattle.client_read.specs.Inside.{Keeps, read_in, IsRead}
-use Rattle.client_read.specs.declared.read.ReadCall.TheInside.{Inside}
-use Rattle.client_read.specs.declared.stage.ReadStage.{ReadStage}
-use Rattle.client_read.specs.declared.stage.ReadStage.TheVariants as stage
+use Rattle.client_read.specs.declared.read_call.ReadCall.TheInside.{Inside}
+use Rattle.client_read.specs.declared.read_stage.ReadStage.{ReadStage}
+use Rattle.client_read.specs.declared.read_stage.ReadStage.TheVariants as stage
 use Rattle.client_read.proofs.Standings.{looks_first, closed_finished}
 
 -- its look, where it stands before it

@@ -31,8 +31,8 @@ use Rattle.store_map.specs.declared.actor.Point.{Point}
 use Rattle.call_steps.specs.TokenAfter.{token_after, MayMake}
 use Rattle.call_steps.specs.CallOf.{CallOf, act_of, state_told, heard}
 use Rattle.call_steps.specs.Steps.{at_directory_by, stepped_at_directory}
-use Rattle.stripe_dir.specs.declared.answers.Look.{Look}
-use Rattle.stripe_dir.specs.declared.answers.Look.TheVariants as look
+use Rattle.stripe_dir.specs.declared.directory_answers.Look.{Look}
+use Rattle.stripe_dir.specs.declared.directory_answers.Look.TheVariants as look
 use Rattle.stripe_dir.specs.Shown.{AreShown, stripes_seen}
 use Rattle.stripe_stamps.specs.SeenStripes.{IsSeenIn}
 use Rattle.gather_parts.specs.Gatherings.{GatheringsOf}
@@ -41,7 +41,7 @@ use Rattle.call_steps.specs.Callers.{IsClient, IsWaiting}
 use Rattle.client_read.specs.Stages.{IsLooked}
 use Rattle.client_read.specs.Owed.{owed_after_look, owed_by, owed_after}
 use Rattle.client_read.specs.Inside.{Keeps}
-use Rattle.client_read.specs.declared.stage.ReadStage.{ReadStage}
+use Rattle.client_read.specs.declared.read_stage.ReadStage.{ReadStage}
 use Rattle.client_read.proofs.Standings.{looks_first}
 
 -- what a look tells

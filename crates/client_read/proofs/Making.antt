@@ -13,9 +13,9 @@ use Rattle.gather_parts.proofs.Doing.{gathering_does}
 use Rattle.client_read.specs.Reads.{ReadOf}
 use Rattle.client_read.specs.Stages.{state_by, due_by}
 use Rattle.client_read.specs.Inside.{IsHolding, Keeps, read_in, IsRead}
-use Rattle.client_read.specs.declared.read.ReadCall.TheInside.{Inside}
-use Rattle.client_read.specs.declared.stage.ReadStage.{ReadStage}
-use Rattle.client_read.specs.declared.stage.ReadStage.TheVariants as stage
+use Rattle.client_read.specs.declared.read_call.ReadCall.TheInside.{Inside}
+use Rattle.client_read.specs.declared.read_stage.ReadStage.{ReadStage}
+use Rattle.client_read.specs.declared.read_stage.ReadStage.TheVariants as stage
 use Rattle.client_read.proofs.Standings.{looks_first, closed_finished}
 use Rattle.client_read.proofs.Looking.{may_look}
 

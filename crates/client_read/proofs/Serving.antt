@@ -3,8 +3,8 @@ use Rattle.std.proofs.Common.{◌≡◌, ℕ, List, Vec, ap, ◌∙◌}
 use Rattle.std.specs.declared.alloc.Global.{Global}
 use Rattle.call_steps.specs.declared.outcomes.Outcome.{Outcome}
 use Rattle.call_steps.specs.declared.outcomes.Outcome.TheVariants as outcome
-use Rattle.gather_parts.specs.declared.ends.Gathered.{Gathered}
-use Rattle.gather_parts.specs.declared.ends.Gathered.TheVariants as gathered
+use Rattle.gather_parts.specs.declared.parts_ends.Gathered.{Gathered}
+use Rattle.gather_parts.specs.declared.parts_ends.Gathered.TheVariants as gathered
 use Rattle.gather_parts.specs.Ends.{IfBytes}
 use Rattle.client_read.specs.Ends.{IfServed, AreBytes}
 

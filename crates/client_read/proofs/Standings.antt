@@ -30,9 +30,9 @@ use Rattle.client_read.specs.Stages.{state_by, due_by, after_end}
 use Rattle.call_steps.specs.Ends.{finished_of, is_ending}
 use Rattle.call_steps.specs.Callers.{IsWaiting}
 use Rattle.client_read.specs.Inside.{IsHolding, Keeps, read_in, IsRead}
-use Rattle.client_read.specs.declared.read.ReadCall.TheInside.{Inside}
-use Rattle.client_read.specs.declared.stage.ReadStage.{ReadStage}
-use Rattle.client_read.specs.declared.stage.ReadStage.TheVariants as stage
+use Rattle.client_read.specs.declared.read_call.ReadCall.TheInside.{Inside}
+use Rattle.client_read.specs.declared.read_stage.ReadStage.{ReadStage}
+use Rattle.client_read.specs.declared.read_stage.ReadStage.TheVariants as stage
 
 -- what a call that reads does first
 pub looks_first : (read : Call) (tries : ℕ) → is_read read ≡ true → (g : _) → act_at g tries (job_of read) [] State.Start ≡ Act.AtDirectory (DirectoryStep.Look (note_of read))

@@ -11,10 +11,10 @@ use Rattle.client_read.specs.Reads.{ReadOf, is_read}
 use Rattle.call_steps.specs.Callers.{IsClient, IsWaiting}
 use Rattle.client_read.specs.Ends.{IsPlain}
 use Rattle.client_read.specs.Stages.{state_by, due_by}
-use Rattle.client_read.specs.declared.stage.ReadStage.{ReadStage}
-use Rattle.client_read.specs.declared.stage.ReadStage.TheVariants as stage
+use Rattle.client_read.specs.declared.read_stage.ReadStage.{ReadStage}
+use Rattle.client_read.specs.declared.read_stage.ReadStage.TheVariants as stage
 use Rattle.call_steps.specs.CallOf.{tries_by}
-use Rattle.client_read.specs.declared.read.ReadCall.TheInside.{Inside}
+use Rattle.client_read.specs.declared.read_call.ReadCall.TheInside.{Inside}
 
 -- what callers see
 abbrev pub read_in : Inside → ReadOf

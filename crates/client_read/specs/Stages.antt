@@ -9,8 +9,8 @@ use Rattle.call_steps.specs.Ends.{finished_of}
 use Rattle.gather_parts.specs.Gatherings.{GatheringsOf}
 use Rattle.gather_parts.specs.Progress.{is_due}
 use Rattle.gather_parts.specs.States.{state_in}
-use Rattle.client_read.specs.declared.stage.ReadStage.{ReadStage}
-use Rattle.client_read.specs.declared.stage.ReadStage.TheVariants as stage
+use Rattle.client_read.specs.declared.read_stage.ReadStage.{ReadStage}
+use Rattle.client_read.specs.declared.read_stage.ReadStage.TheVariants as stage
 
 -- by its stage
 abbrev pub state_by : ReadStage → GatheringsOf → Point → Outcome → State

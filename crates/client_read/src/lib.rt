@@ -2,8 +2,8 @@
 //! its pass.
 #![tactic(auto)]
 
-mod directory;
-mod read;
-mod stage;
+mod read_call;
+mod read_directory;
+mod read_stage;
 
-pub use read::ReadCall;
+pub use read_call::ReadCall;

@@ -1,5 +1,5 @@
 //! A file cut into its shares, with each call failing in turn.
-use crate::shares::{FILE, new_shares, new_source};
+use crate::test_shares::{FILE, new_shares, new_source};
 use crate::{expect_same, new_crc};
 use clay_aloof::AloofGeometry;
 use crc64::Crc64;

@@ -1,7 +1,7 @@
 //! A file joined from its shares, of which some are missing, rotten or can't be read, with each call failing in turn.
 ghost use Rattle.std.specs.Prelude.{◌≡◌, ◌≤◌, length};
 
-use crate::shares::{FILE, cut_shares};
+use crate::test_shares::{FILE, cut_shares};
 use crate::{expect_bytes, expect_same, new_crc};
 use clay_aloof::AloofGeometry;
 use clay_bytes::MemSink;

@@ -8,21 +8,21 @@ mod checked_shares;
 #[cfg(test)]
 mod checksums;
 #[cfg(test)]
-mod coders;
+mod coder_tests;
 #[cfg(test)]
-mod coupling;
+mod coupling_tests;
 #[cfg(test)]
 mod cuts;
 #[cfg(test)]
 mod decoding;
 #[cfg(test)]
-mod encoding;
+mod encoding_tests;
 #[cfg(test)]
-mod field;
+mod field_tests;
 #[cfg(test)]
-mod geometry;
+mod geometry_tests;
 #[cfg(test)]
-mod headers;
+mod header_tests;
 #[cfg(test)]
 mod interpolation;
 #[cfg(test)]
@@ -34,7 +34,7 @@ mod packed_headers;
 #[cfg(test)]
 mod placed_bytes;
 #[cfg(test)]
-mod shares;
+mod test_shares;
 #[cfg(test)]
 mod told_cuts;
 #[cfg(test)]

@@ -2,7 +2,7 @@
 ghost use Rattle.std.specs.Prelude.{◌≡◌, ◌≤◌, ◌<◌, ◌^◌, length};
 ghost use Rattle.clay_aloof.specs.Shape.{all_chunks};
 
-use crate::shares::{cut_shares, new_file, new_share};
+use crate::test_shares::{cut_shares, new_file, new_share};
 use crate::{copied, expect_bytes, expect_same, new_crc};
 use clay_aloof::AloofGeometry;
 use crc64::Crc64;

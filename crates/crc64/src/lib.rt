@@ -8,12 +8,12 @@ ghost use Rattle.crc64.specs.Tables.{HasRemainders};
 
 mod combiner;
 mod folding;
-mod laws;
+mod laws_of_checksums;
 
 use byteorder::{ByteOrder, LittleEndian};
 pub use combiner::Combiner;
 use folding::{LEAST, TURN, fold, no_rest};
-pub use laws::{bursts_are_found, checksums_fit, remainders_are_left};
+pub use laws_of_checksums::{bursts_are_found, checksums_fit, remainders_are_left};
 use std::alloc::{AllocError, Global};
 
 /// All coefficients of the generator but the highest.

@@ -30,10 +30,10 @@ use Rattle.stripe_stamps.specs.Stamped.{HasStamps}
 use Rattle.call_steps.specs.declared.seen.Seen.{Seen}
 use Rattle.stripe_dir.proofs.Commits.{old_current}
 use Rattle.stripe_dir.proofs.Lookings.{pins_stand, repair_begins, repair_none}
-use Rattle.stripe_dir.specs.declared.answers.Look.{Look}
-use Rattle.stripe_dir.specs.declared.answers.Look.TheVariants as look_answer
-use Rattle.stripe_dir.specs.declared.answers.RepairLook.{RepairLook}
-use Rattle.stripe_dir.specs.declared.answers.RepairLook.TheVariants as repair
+use Rattle.stripe_dir.specs.declared.directory_answers.Look.{Look}
+use Rattle.stripe_dir.specs.declared.directory_answers.Look.TheVariants as look_answer
+use Rattle.stripe_dir.specs.declared.directory_answers.RepairLook.{RepairLook}
+use Rattle.stripe_dir.specs.declared.directory_answers.RepairLook.TheVariants as repair
 use Rattle.stripe_dir.specs.Shown.{repair_note, stripes_seen, stripe_seen, IsShown, AreShown}
 
 -- the stripes that are told

@@ -10,8 +10,8 @@ use Rattle.store_core.specs.PassSteps.{touched}
 use Rattle.store_core.specs.Agreement.{HeldPass, ActorToken}
 use Rattle.version_seal.specs.Entry.{StampOf, RequestOf}
 use Rattle.stripe_stamps.specs.Sealed.{Sealed, drawn_stamp, stamps_touched}
-use Rattle.stripe_dir.specs.declared.answers.Drawn.{Drawn}
-use Rattle.stripe_dir.specs.declared.answers.Drawn.TheVariants as drawn
+use Rattle.stripe_dir.specs.declared.directory_answers.Drawn.{Drawn}
+use Rattle.stripe_dir.specs.declared.directory_answers.Drawn.TheVariants as drawn
 use Rattle.stripe_dir.specs.AnswerStamps.{AreDrawn, AreDrawnFor, IfDrawn}
 
 -- the pass that a ticket is, where it is one

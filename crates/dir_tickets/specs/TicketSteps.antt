@@ -12,12 +12,12 @@ use Rattle.stripe_dir.specs.AnswerStamps.{IfDrawn}
 use Rattle.stripe_dir.specs.Answers.{told_by_look, told_by_repair_look, told_by_draw, told_committed, told_ended, told_confirmed}
 use Rattle.stripe_dir.specs.Shown.{repair_note}
 use Rattle.stripe_dir.specs.Steps.{IsStep}
-use Rattle.stripe_dir.specs.declared.answers.Look.{Look}
-use Rattle.stripe_dir.specs.declared.answers.RepairLook.{RepairLook}
-use Rattle.stripe_dir.specs.declared.answers.Drawn.{Drawn}
-use Rattle.stripe_dir.specs.declared.answers.Committed.{Committed}
-use Rattle.stripe_dir.specs.declared.answers.Ended.{Ended}
-use Rattle.stripe_dir.specs.declared.answers.Confirmed.{Confirmed}
+use Rattle.stripe_dir.specs.declared.directory_answers.Look.{Look}
+use Rattle.stripe_dir.specs.declared.directory_answers.RepairLook.{RepairLook}
+use Rattle.stripe_dir.specs.declared.directory_answers.Drawn.{Drawn}
+use Rattle.stripe_dir.specs.declared.directory_answers.Committed.{Committed}
+use Rattle.stripe_dir.specs.declared.directory_answers.Ended.{Ended}
+use Rattle.stripe_dir.specs.declared.directory_answers.Confirmed.{Confirmed}
 
 -- the look of a client's call, and that of a rebuild of a stripe's chunk
 abbrev pub look_step : Call → DirectoryStep

@@ -6,7 +6,7 @@ ghost use Rattle.stripe_dir.specs.Answers.{told_by_look, told_by_repair_look};
 ghost use Rattle.dir_tickets.specs.TicketSteps.{look_step, repair_step, LooksBy, LooksRepairBy};
 ghost use Rattle.stripe_dir.specs.Shown.{stripes_seen, stripe_seen, AreShown};
 
-use crate::apart::{split_look, split_repair_look};
+use crate::answers_apart::{split_look, split_repair_look};
 use crate::ticket::{Ticket, put, take_seat};
 use std::alloc::AllocError;
 use store_map::{Call, Name};

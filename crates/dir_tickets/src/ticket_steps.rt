@@ -10,7 +10,7 @@ ghost use Rattle.dir_tickets.specs.TicketSteps.{DrawsBy, DrewBy, CommitsBy, Conf
 ghost use Rattle.stripe_dir.specs.AnswerStamps.{stamps_given};
 ghost use Rattle.dir_tickets.specs.TicketView.{CanSealFor};
 
-use crate::apart::{split_committed, split_confirmed, split_drawn, split_ended};
+use crate::answers_apart::{split_committed, split_confirmed, split_drawn, split_ended};
 use crate::ticket::{Ticket, put, take_pass};
 use std::alloc::AllocError;
 use store_map::Placement;

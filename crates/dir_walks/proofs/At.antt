@@ -11,17 +11,17 @@ use Rattle.store_core.specs.Look.{stripes_between}
 use Rattle.store_core.specs.Agreement.{Seat, HeldPass, ActorToken}
 use Rattle.store_core.specs.Tokens.{after_look, begun_by, after_pass_step}
 use Rattle.version_seal.specs.Entry.{BookOf, RequestOf, StampOf, call_written, is_writing, IsRequestIn}
-use Rattle.stripe_dir.specs.declared.answers.Look.{Look}
-use Rattle.stripe_dir.specs.declared.answers.Look.TheVariants as look
-use Rattle.stripe_dir.specs.declared.answers.Drawn.{Drawn}
-use Rattle.stripe_dir.specs.declared.answers.Drawn.TheVariants as draw
-use Rattle.stripe_dir.specs.declared.answers.Committed.{Committed}
-use Rattle.stripe_dir.specs.declared.answers.Committed.TheVariants as commit
-use Rattle.stripe_dir.specs.declared.answers.Ended.{Ended}
-use Rattle.stripe_dir.specs.declared.answers.Ended.TheVariants as end
+use Rattle.stripe_dir.specs.declared.directory_answers.Look.{Look}
+use Rattle.stripe_dir.specs.declared.directory_answers.Look.TheVariants as look
+use Rattle.stripe_dir.specs.declared.directory_answers.Drawn.{Drawn}
+use Rattle.stripe_dir.specs.declared.directory_answers.Drawn.TheVariants as draw
+use Rattle.stripe_dir.specs.declared.directory_answers.Committed.{Committed}
+use Rattle.stripe_dir.specs.declared.directory_answers.Committed.TheVariants as commit
+use Rattle.stripe_dir.specs.declared.directory_answers.Ended.{Ended}
+use Rattle.stripe_dir.specs.declared.directory_answers.Ended.TheVariants as end
 use Rattle.stripe_dir.specs.Answers.{told_look, told_drawn, told_committed, told_ended}
-use Rattle.dir_walks.specs.declared.stage.WalkStage.{WalkStage}
-use Rattle.dir_walks.specs.declared.stage.WalkStage.TheVariants as stage
+use Rattle.dir_walks.specs.declared.test_stage.WalkStage.{WalkStage}
+use Rattle.dir_walks.specs.declared.test_stage.WalkStage.TheVariants as stage
 use Rattle.dir_walks.specs.Callers.{CallerOf, IsBegun, IsDrawn, IsAt, is_seated}
 use Rattle.dir_walks.specs.After.{writes, stage_after_look, stage_after_draw, drawn_by, unused_after_commit}
 use Rattle.dir_walks.proofs.Goes.{to_write, writing}

@@ -15,12 +15,12 @@ use Rattle.version_seal.specs.Entry.{RequestOf}
 use Rattle.stripe_stamps.specs.Sealed.{Sealed}
 use Rattle.call_steps.specs.TokenAfter.{token_after}
 use Rattle.stripe_dir.specs.AnswerStamps.{IfDrawn}
-use Rattle.stripe_dir.specs.declared.answers.Look.{Look}
-use Rattle.stripe_dir.specs.declared.answers.Drawn.{Drawn}
-use Rattle.stripe_dir.specs.declared.answers.Committed.{Committed}
-use Rattle.stripe_dir.specs.declared.answers.Ended.{Ended}
-use Rattle.dir_walks.specs.declared.stage.WalkStage.{WalkStage}
-use Rattle.dir_walks.specs.declared.stage.WalkStage.TheVariants as stage
+use Rattle.stripe_dir.specs.declared.directory_answers.Look.{Look}
+use Rattle.stripe_dir.specs.declared.directory_answers.Drawn.{Drawn}
+use Rattle.stripe_dir.specs.declared.directory_answers.Committed.{Committed}
+use Rattle.stripe_dir.specs.declared.directory_answers.Ended.{Ended}
+use Rattle.dir_walks.specs.declared.test_stage.WalkStage.{WalkStage}
+use Rattle.dir_walks.specs.declared.test_stage.WalkStage.TheVariants as stage
 use Rattle.dir_walks.specs.Callers.{CallerOf, IsBegun, IsDrawn, IsAt, IsRight, Steps, is_seated}
 use Rattle.dir_walks.specs.After.{stage_after_look, stage_after_draw, drawn_by, unused_after_commit}
 use Rattle.dir_walks.proofs.At.{seated, begun, drawn, in_call, at_end, at_commit, at_draw, at_look}

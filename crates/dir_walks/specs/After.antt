@@ -2,14 +2,14 @@
 use Rattle.std.specs.Prelude.{ℕ, ⊤, ◌+◌, Bool, true, false, length, if◌then◌else◌}
 use Rattle.store_map.specs.declared.call.Call.{Call}
 use Rattle.store_map.specs.declared.call.Call.TheVariants as call
-use Rattle.stripe_dir.specs.declared.answers.Look.{Look}
-use Rattle.stripe_dir.specs.declared.answers.Look.TheVariants as look
-use Rattle.stripe_dir.specs.declared.answers.Drawn.{Drawn}
-use Rattle.stripe_dir.specs.declared.answers.Drawn.TheVariants as draw
-use Rattle.stripe_dir.specs.declared.answers.Committed.{Committed}
-use Rattle.stripe_dir.specs.declared.answers.Committed.TheVariants as commit
-use Rattle.dir_walks.specs.declared.stage.WalkStage.{WalkStage}
-use Rattle.dir_walks.specs.declared.stage.WalkStage.TheVariants as stage
+use Rattle.stripe_dir.specs.declared.directory_answers.Look.{Look}
+use Rattle.stripe_dir.specs.declared.directory_answers.Look.TheVariants as look
+use Rattle.stripe_dir.specs.declared.directory_answers.Drawn.{Drawn}
+use Rattle.stripe_dir.specs.declared.directory_answers.Drawn.TheVariants as draw
+use Rattle.stripe_dir.specs.declared.directory_answers.Committed.{Committed}
+use Rattle.stripe_dir.specs.declared.directory_answers.Committed.TheVariants as commit
+use Rattle.dir_walks.specs.declared.test_stage.WalkStage.{WalkStage}
+use Rattle.dir_walks.specs.declared.test_stage.WalkStage.TheVariants as stage
 
 -- a put or a write
 abbrev pub writes : Call → Bool

@@ -10,8 +10,8 @@ use Rattle.store_core.specs.Agreement.{HeldPass, ActorToken, Agrees}
 use Rattle.store_core.specs.Tokens.{actor_of, IsToWrite}
 use Rattle.version_seal.specs.Entry.{BookOf, RequestOf}
 use Rattle.stripe_stamps.specs.Sealed.{Sealed, CanSeal}
-use Rattle.dir_walks.specs.declared.stage.WalkStage.{WalkStage}
-use Rattle.dir_walks.specs.declared.stage.WalkStage.TheVariants as stage
+use Rattle.dir_walks.specs.declared.test_stage.WalkStage.{WalkStage}
+use Rattle.dir_walks.specs.declared.test_stage.WalkStage.TheVariants as stage
 
 -- an actor, its ticket and where it is; the number of its last call, the least one that is unused, how many versions it has drawn, and its put or write
 pub record CallerOf : Type 0 where

@@ -1,6 +1,6 @@
 -- The fields as the record.
 use Rattle.dir_walks.specs.Callers.{CallerOf}
-use Rattle.dir_walks.specs.declared.caller.Caller.TheInside.{Inside}
+use Rattle.dir_walks.specs.declared.test_caller.Caller.TheInside.{Inside}
 
 abbrev pub caller_in : Inside → CallerOf
 caller_in a =

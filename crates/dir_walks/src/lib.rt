@@ -2,7 +2,7 @@
 //! with its ticket. It has no tests of its own, so that it is proved once.
 #![tactic(auto)]
 
-pub mod caller;
-pub mod placing;
-pub mod stage;
-pub mod store;
+pub mod test_caller;
+pub mod test_rows;
+pub mod test_stage;
+pub mod test_store;

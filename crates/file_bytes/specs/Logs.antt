@@ -1,8 +1,8 @@
 -- Logs as numbers, and what they show.
 use Rattle.std.specs.Prelude.{ℕ, List, [], ◌∷◌}
 use Rattle.file_bytes.specs.Places.{Placed, placed}
-use Rattle.file_bytes.specs.declared.logs.PlaceLog.TheInside as bytes
-use Rattle.file_bytes.specs.declared.logs.PositionLog.TheInside as positions
+use Rattle.file_bytes.specs.declared.position_logs.PlaceLog.TheInside as bytes
+use Rattle.file_bytes.specs.declared.position_logs.PositionLog.TheInside as positions
 
 -- each position followed by its byte
 abbrev pub numbers_of : List Placed → List ℕ

@@ -5,7 +5,7 @@ use Rattle.std.proofs.lemmas.Bool.{ltb-true, ltb-false, false≢true}
 use Rattle.std.proofs.lemmas.List.{length-take}
 use Rattle.std.proofs.lemmas.List.Elements.{All-take}
 use Rattle.byteorder.specs.Endian.{big_bytes}
-use Rattle.session_rules.specs.declared.ending.Ending.{Ending}
+use Rattle.session_rules.specs.declared.session_ending.Ending.{Ending}
 use Rattle.session_rules.specs.Fields.{Reader}
 use Rattle.session_rules.specs.Input.{most_input, framed, is_frame_length, has_wrong_length, frames_by, ending_by, input_of}
 use Rattle.frame_bytes.specs.Cuts.{IsCut}

@@ -6,9 +6,9 @@ use Rattle.std.proofs.lemmas.List.{take_all, drop_all, take_at, drop_at, length-
 use Rattle.byteorder.specs.Endian.{big_number}
 use Rattle.clay_bytes.specs.Stream.{HandsOut}
 use Rattle.clay_bytes.proofs.StreamLemmas.{gives-then, and-more, hands-nothing}
-use Rattle.session_rules.specs.declared.ending.Ending.{Ending}
+use Rattle.session_rules.specs.declared.session_ending.Ending.{Ending}
 use Rattle.session_rules.specs.Input.{is_frame_length}
-use Rattle.frame_bytes.specs.declared.reading.Next.{Next}
+use Rattle.frame_bytes.specs.declared.frame_reading.Next.{Next}
 use Rattle.frame_bytes.specs.Filling.{Fills, HandsOutFewer}
 use Rattle.frame_bytes.specs.Next.{IsNext, IsPart, StopsWithin, StopsAtLength}
 use Rattle.frame_bytes.specs.Heard.{HandsOutNext, HandsOutBody, HandsOutPart, HandsOutLength}

@@ -5,9 +5,9 @@ use Rattle.std.proofs.lemmas.Option.{none-some, cond_some}
 use Rattle.std.proofs.lemmas.List.{length-take, length-drop, length-take-le, length-append, take-take, take_all, take_at, drop-drop, drop-take}
 use Rattle.byteorder.specs.Endian.{big_number}
 use Rattle.byteorder.specs.Numbers.{big_from-take}
-use Rattle.session_rules.specs.declared.ending.Ending.{Ending}
+use Rattle.session_rules.specs.declared.session_ending.Ending.{Ending}
 use Rattle.session_rules.specs.Input.{is_frame_length, first_frame, frames_after, frames_by, ending_by}
-use Rattle.frame_bytes.specs.declared.reading.Next.{Next}
+use Rattle.frame_bytes.specs.declared.frame_reading.Next.{Next}
 use Rattle.frame_bytes.specs.Next.{next_by, next_of, IsPart}
 use Rattle.frame_bytes.specs.Inputs.{rest_of, from_next, part_ending, InputsAreRead}
 use Rattle.frame_bytes.proofs.NextLemmas.{number_some, framed_in}

@@ -5,9 +5,9 @@ use Rattle.std.specs.List.{list_all}
 use Rattle.std.proofs.lemmas.Bool.{and_parts, leb-true}
 use Rattle.byteorder.specs.Endian.{big_bytes}
 use Rattle.store_map.specs.Name.{IsName, is_name_byte}
-use Rattle.session_rules.specs.declared.answer.Missing.{Missing}
-use Rattle.session_rules.specs.declared.answer.LostChunk.{LostChunk}
-use Rattle.session_rules.specs.declared.answer.Answer.{Answer}
+use Rattle.session_rules.specs.declared.session_answer.Missing.{Missing}
+use Rattle.session_rules.specs.declared.session_answer.LostChunk.{LostChunk}
+use Rattle.session_rules.specs.declared.session_answer.Answer.{Answer}
 use Rattle.session_rules.specs.Replies.{missing_bytes, lost_bytes, answer_bytes}
 use Rattle.frame_bytes.proofs.WriteLemmas.{each_more}
 

@@ -5,9 +5,9 @@ use Rattle.std.proofs.lemmas.List.{length-take, length-drop, length-take-le, tak
 use Rattle.byteorder.specs.Endian.{big_number}
 use Rattle.byteorder.specs.Numbers.{big_from-take}
 use Rattle.session_rules.specs.Fields.{Reader, number_then}
-use Rattle.session_rules.specs.declared.ending.Ending.{Ending}
+use Rattle.session_rules.specs.declared.session_ending.Ending.{Ending}
 use Rattle.session_rules.specs.Input.{is_frame_length, first_frame, has_wrong_length, ending_by}
-use Rattle.frame_bytes.specs.declared.reading.Next.{Next}
+use Rattle.frame_bytes.specs.declared.frame_reading.Next.{Next}
 use Rattle.frame_bytes.specs.Next.{next_by, next_of, read_for}
 use Rattle.frame_bytes.specs.Body.{IsBodyIn}
 

@@ -6,9 +6,9 @@ use Rattle.byteorder.specs.Endian.{big_number}
 use Rattle.byteorder.specs.Numbers.{big_from-take}
 use Rattle.clay_bytes.specs.Stream.{Gives}
 use Rattle.clay_bytes.proofs.StreamLemmas.{gives-then}
-use Rattle.session_rules.specs.declared.ending.Ending.{Ending}
+use Rattle.session_rules.specs.declared.session_ending.Ending.{Ending}
 use Rattle.session_rules.specs.Input.{is_frame_length, most_frame}
-use Rattle.frame_bytes.specs.declared.reading.Next.{Next}
+use Rattle.frame_bytes.specs.declared.frame_reading.Next.{Next}
 use Rattle.frame_bytes.specs.Filling.{Fills, GivesFewer}
 use Rattle.frame_bytes.specs.Next.{IsNext, IsPart, StopsWithin, StopsAtLength}
 use Rattle.frame_bytes.specs.Body.{IsBody}

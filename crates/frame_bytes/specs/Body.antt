@@ -1,7 +1,7 @@
 -- What stands behind a frame's length, in bytes of which so many are served.
 use Rattle.std.specs.Prelude.{◌≡◌, ◌≤◌, ◌<◌, ℕ, ◌+◌, Option, None, Some, List, [], length, take, drop}
-use Rattle.session_rules.specs.declared.ending.Ending.{Ending}
-use Rattle.frame_bytes.specs.declared.reading.Next.{Next}
+use Rattle.session_rules.specs.declared.session_ending.Ending.{Ending}
+use Rattle.frame_bytes.specs.declared.frame_reading.Next.{Next}
 
 -- the frame is not whole in what is served: those bytes go on, or end
 abbrev pub IsCutBody : ℕ → ℕ → List ℕ → Ending → List ℕ → Type 0

@@ -1,7 +1,7 @@
 -- How an input ends, by how it is cut into frames.
 use Rattle.std.specs.Prelude.{◌≡◌, ◌≤◌, ◌<◌, ℕ, ◌^◌, false, List, [], ◌++◌, length, take, All}
 use Rattle.byteorder.specs.Endian.{big_bytes}
-use Rattle.session_rules.specs.declared.ending.Ending.{Ending}
+use Rattle.session_rules.specs.declared.session_ending.Ending.{Ending}
 use Rattle.session_rules.specs.Input.{most_input, is_frame_length, input_of}
 use Rattle.frame_bytes.specs.Cuts.{IsCut}
 

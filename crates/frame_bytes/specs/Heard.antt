@@ -1,7 +1,7 @@
 -- What stands next in a session's input, by what a source handed out of it.
 use Rattle.std.specs.Prelude.{◌≡◌, ℕ, Bool, true, Option, Some, List, [], ◌++◌, length}
 use Rattle.clay_bytes.specs.Stream.{HandsOut}
-use Rattle.frame_bytes.specs.declared.reading.Next.{Next}
+use Rattle.frame_bytes.specs.declared.frame_reading.Next.{Next}
 use Rattle.frame_bytes.specs.Next.{IsNext, IsPart}
 use Rattle.frame_bytes.specs.Body.{IsBody}
 

@@ -1,9 +1,9 @@
 -- What stands next in a session's input, of which so many bytes are served.
 use Rattle.std.specs.Prelude.{◌≡◌, ◌≤◌, ℕ, ◌+◌, nat_lt, false, Option, None, Some, List, length, take, drop, IsTrue}
 use Rattle.clay_bytes.specs.Stream.{Gives}
-use Rattle.session_rules.specs.declared.ending.Ending.{Ending}
+use Rattle.session_rules.specs.declared.session_ending.Ending.{Ending}
 use Rattle.session_rules.specs.Input.{is_frame_length, first_frame, has_wrong_length, ending_by}
-use Rattle.frame_bytes.specs.declared.reading.Next.{Next}
+use Rattle.frame_bytes.specs.declared.frame_reading.Next.{Next}
 
 -- the frame that stands first, where one does, and otherwise the input's ending
 abbrev pub next_by : Option (List ℕ × List ℕ) → Ending → Next

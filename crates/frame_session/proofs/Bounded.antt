@@ -18,9 +18,9 @@ use Rattle.store_map.proofs.MapLaws.{length-content_bytes}
 use Rattle.store_core.specs.GatheringParts.{chunks_in_range}
 use Rattle.session_rules.specs.State.{Stripe, Numbering, Snapshot, State, numbers_of, stripe_at, chunk_at, first_state}
 use Rattle.session_rules.specs.declared.request.Request.{Request}
-use Rattle.session_rules.specs.declared.answer.Answer.{Answer}
-use Rattle.session_rules.specs.declared.answer.Missing.{Missing}
-use Rattle.session_rules.specs.declared.answer.LostChunk.{LostChunk}
+use Rattle.session_rules.specs.declared.session_answer.Answer.{Answer}
+use Rattle.session_rules.specs.declared.session_answer.Missing.{Missing}
+use Rattle.session_rules.specs.declared.session_answer.LostChunk.{LostChunk}
 use Rattle.session_rules.specs.Replies.{missing_bytes, lost_bytes, most_listed, answer_bytes}
 use Rattle.session_rules.specs.Input.{is_frame_length, most_frame}
 use Rattle.session_rules.specs.Gathered.{Range, holds, lacking, is_beyond_repair, asked_first, named, unavailable}

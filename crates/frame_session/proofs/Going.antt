@@ -6,14 +6,14 @@ use Rattle.clay_grid.specs.Shape.{Shape, chunk_count}
 use Rattle.clay_grid.specs.Limits.{IsGeometry}
 use Rattle.session_rules.specs.State.{State, first_state}
 use Rattle.session_rules.specs.declared.request.Request.{Request}
-use Rattle.session_rules.specs.declared.answer.Answer.{Answer}
-use Rattle.session_rules.specs.declared.ending.Ending.{Ending}
+use Rattle.session_rules.specs.declared.session_answer.Answer.{Answer}
+use Rattle.session_rules.specs.declared.session_ending.Ending.{Ending}
 use Rattle.session_rules.specs.Input.{most_input, framed}
 use Rattle.session_rules.specs.Requests.{request_of}
 use Rattle.session_rules.specs.Replies.{answer_bytes}
 use Rattle.session_rules.specs.Session.{IsAnswered}
 use Rattle.session_rules.specs.Shortages.{Leaves}
-use Rattle.frame_bytes.specs.declared.reading.Next.{Next}
+use Rattle.frame_bytes.specs.declared.frame_reading.Next.{Next}
 use Rattle.frame_bytes.specs.Next.{IsNext}
 use Rattle.frame_bytes.specs.Heard.{HandsOutNext, HandsOutPart, HandsOutLength}
 use Rattle.frame_bytes.specs.Requests.{HasName, IsNamed}

@@ -7,13 +7,13 @@ use Rattle.byteorder.specs.Endian.{big_bytes}
 use Rattle.clay_bytes.specs.Stream.{Gives}
 use Rattle.clay_grid.specs.Shape.{Shape, chunk_count}
 use Rattle.session_rules.specs.State.{State, first_state}
-use Rattle.session_rules.specs.declared.answer.Answer.{Answer}
-use Rattle.session_rules.specs.declared.ending.Ending.{Ending}
+use Rattle.session_rules.specs.declared.session_answer.Answer.{Answer}
+use Rattle.session_rules.specs.declared.session_ending.Ending.{Ending}
 use Rattle.session_rules.specs.Input.{most_input, framed, input_of}
 use Rattle.session_rules.specs.Requests.{request_of}
 use Rattle.session_rules.specs.Replies.{answer_bytes}
 use Rattle.session_rules.specs.Session.{written_as, IsAnswered, AreAnswered}
-use Rattle.frame_bytes.specs.declared.reading.Next.{Next}
+use Rattle.frame_bytes.specs.declared.frame_reading.Next.{Next}
 use Rattle.frame_bytes.specs.Next.{read_to_end, IsNext, IsPart}
 use Rattle.frame_bytes.specs.Heard.{IsNextIn}
 use Rattle.frame_bytes.specs.Inputs.{rest_of, from_next, part_ending}

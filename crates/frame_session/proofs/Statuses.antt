@@ -1,9 +1,9 @@
 -- Which status stands for what.
 use Rattle.std.proofs.Common.{◌≡◌, Bool, true, false, refl, sym, ap, ◌∙◌}
 use Rattle.std.proofs.lemmas.Bool.{false≢true}
-use Rattle.session_rules.specs.declared.ending.Ending.{Ending}
-use Rattle.frame_bytes.specs.declared.fault.FrameFault.{FrameFault}
-use Rattle.frame_session.specs.declared.status.SessionStatus.{SessionStatus}
+use Rattle.session_rules.specs.declared.session_ending.Ending.{Ending}
+use Rattle.frame_bytes.specs.declared.frame_fault.FrameFault.{FrameFault}
+use Rattle.frame_session.specs.declared.session_status.SessionStatus.{SessionStatus}
 use Rattle.frame_session.specs.Status.{status_of, status_of_fault}
 
 true-false : true ≡ false → ⊥

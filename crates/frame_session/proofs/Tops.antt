@@ -1,8 +1,8 @@
 -- What a whole call owes, of what its session owes.
 use Rattle.std.proofs.Common.{◌≡◌, ◌⊎◌, ℕ, List, refl, subst, inl, inr}
 use Rattle.clay_grid.specs.Shape.{Shape}
-use Rattle.session_rules.specs.declared.ending.Ending.{Ending}
-use Rattle.frame_session.specs.declared.status.SessionStatus.{SessionStatus}
+use Rattle.session_rules.specs.declared.session_ending.Ending.{Ending}
+use Rattle.frame_session.specs.declared.session_status.SessionStatus.{SessionStatus}
 use Rattle.frame_session.specs.Status.{status_of}
 use Rattle.frame_session.specs.Words.{AreWords, IfAsked}
 use Rattle.frame_session.proofs.WordLaws.{one_code}

@@ -4,7 +4,7 @@ use Rattle.std.proofs.lemmas.Fmt.{decimal_injective}
 use Rattle.clay_grid.specs.Shape.{Shape, shape_of}
 use Rattle.clay_grid.specs.Limits.{IsWithinLimits}
 use Rattle.clay_grid.proofs.LimitLaws.{IsGeometry-limits}
-use Rattle.frame_session.specs.declared.words.Asked.{Asked}
+use Rattle.frame_session.specs.declared.session_words.Asked.{Asked}
 use Rattle.frame_session.specs.Words.{AreWords, AskNothing, IsAskedBy}
 
 -- the words are these four

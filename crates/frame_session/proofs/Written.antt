@@ -5,8 +5,8 @@ use Rattle.std.proofs.lemmas.List.Elements.{All-from_recursion}
 use Rattle.clay_grid.specs.Shape.{Shape, chunk_count}
 use Rattle.session_rules.specs.State.{State, first_state}
 use Rattle.session_rules.specs.declared.request.Request.{Request}
-use Rattle.session_rules.specs.declared.answer.Answer.{Answer}
-use Rattle.session_rules.specs.declared.ending.Ending.{Ending}
+use Rattle.session_rules.specs.declared.session_answer.Answer.{Answer}
+use Rattle.session_rules.specs.declared.session_ending.Ending.{Ending}
 use Rattle.session_rules.specs.Input.{framed, is_frame_length, input_of}
 use Rattle.session_rules.specs.Requests.{request_of}
 use Rattle.session_rules.specs.Replies.{answer_bytes}

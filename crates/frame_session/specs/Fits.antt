@@ -6,7 +6,7 @@ use Rattle.clay_grid.specs.Limits.{IsGeometry}
 use Rattle.store_map.specs.Name.{IsName}
 use Rattle.store_map.specs.PlainMap.{Objects}
 use Rattle.session_rules.specs.State.{Numbering, Snapshot, State, first_state}
-use Rattle.session_rules.specs.declared.answer.Answer.{Answer}
+use Rattle.session_rules.specs.declared.session_answer.Answer.{Answer}
 use Rattle.session_rules.specs.Replies.{answer_bytes}
 use Rattle.session_rules.specs.Input.{is_frame_length}
 use Rattle.session_rules.specs.Session.{AreAnswered}

@@ -1,8 +1,8 @@
 -- What a call of the program owes for its words: what its source had handed out, what it has then and whether it told the end, what its
 -- sink had taken, and what it has then.
 use Rattle.std.specs.Prelude.{◌≡◌, ℕ, Bool, List, ◌++◌}
-use Rattle.session_rules.specs.declared.ending.Ending.{Ending}
-use Rattle.frame_session.specs.declared.status.SessionStatus.{SessionStatus}
+use Rattle.session_rules.specs.declared.session_ending.Ending.{Ending}
+use Rattle.frame_session.specs.declared.session_status.SessionStatus.{SessionStatus}
 use Rattle.frame_session.specs.Status.{status_of}
 use Rattle.frame_session.specs.Words.{AskNothing, IfAsked}
 use Rattle.frame_session.specs.Session.{IsSessionOf, IsGivenUp, IsWanting, IsCutShort}

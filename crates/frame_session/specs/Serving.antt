@@ -4,7 +4,7 @@ use Rattle.clay_bytes.specs.Stream.{Accepts, AcceptsPrefix}
 use Rattle.clay_grid.specs.Shape.{chunk_count}
 use Rattle.clay_grid.specs.Limits.{IsGeometry}
 use Rattle.session_rules.specs.State.{State, first_state}
-use Rattle.session_rules.specs.declared.answer.Answer.{Answer}
+use Rattle.session_rules.specs.declared.session_answer.Answer.{Answer}
 use Rattle.session_rules.specs.Input.{framed}
 use Rattle.session_rules.specs.Requests.{request_of}
 use Rattle.session_rules.specs.Replies.{answer_bytes}

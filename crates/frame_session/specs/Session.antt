@@ -2,8 +2,8 @@
 use Rattle.std.specs.Prelude.{◌≡◌, ◌⊎◌, ◌≤◌, ℕ, ◌+◌, Bool, true, Option, Some, List, [], ◌∷◌, ◌++◌, length, take, drop, flat_map}
 use Rattle.clay_grid.specs.Shape.{Shape}
 use Rattle.session_rules.specs.State.{first_state}
-use Rattle.session_rules.specs.declared.answer.Answer.{Answer}
-use Rattle.session_rules.specs.declared.ending.Ending.{Ending}
+use Rattle.session_rules.specs.declared.session_answer.Answer.{Answer}
+use Rattle.session_rules.specs.declared.session_ending.Ending.{Ending}
 use Rattle.session_rules.specs.Input.{most_input, framed, input_of}
 use Rattle.session_rules.specs.Replies.{answer_bytes}
 use Rattle.session_rules.specs.Session.{written_as, AreAnswered}

@@ -1,8 +1,8 @@
 -- The exit status of a session.
 use Rattle.std.specs.Prelude.{ℕ}
-use Rattle.session_rules.specs.declared.ending.Ending.{Ending}
-use Rattle.frame_bytes.specs.declared.fault.FrameFault.{FrameFault}
-use Rattle.frame_session.specs.declared.status.SessionStatus.{SessionStatus}
+use Rattle.session_rules.specs.declared.session_ending.Ending.{Ending}
+use Rattle.frame_bytes.specs.declared.frame_fault.FrameFault.{FrameFault}
+use Rattle.frame_session.specs.declared.session_status.SessionStatus.{SessionStatus}
 
 -- the program's exit status
 abbrev pub status_number : SessionStatus → ℕ

@@ -2,7 +2,7 @@
 use Rattle.std.specs.Prelude.{◌≡◌, ◌≤◌, ℕ, List, [], ◌∷◌, decimal, Option, MatchOption}
 use Rattle.clay_grid.specs.Shape.{Shape}
 use Rattle.clay_grid.specs.Limits.{IsWithinLimits}
-use Rattle.frame_session.specs.declared.words.Asked.{Asked}
+use Rattle.frame_session.specs.declared.session_words.Asked.{Asked}
 
 -- the words spell the numbers of a code within its limits, and how many bytes an object may have
 pub record AreWords (words : List (List ℕ)) (g : Shape) (max : ℕ) : Type 0 where

@@ -4,8 +4,8 @@ use Rattle.std.specs.List.{AllByRecursion}
 use Rattle.clay_grid.specs.Shape.{Shape}
 use Rattle.clay_grid.specs.Limits.{IsGeometry}
 use Rattle.session_rules.specs.State.{first_state}
-use Rattle.session_rules.specs.declared.answer.Answer.{Answer}
-use Rattle.session_rules.specs.declared.ending.Ending.{Ending}
+use Rattle.session_rules.specs.declared.session_answer.Answer.{Answer}
+use Rattle.session_rules.specs.declared.session_ending.Ending.{Ending}
 use Rattle.session_rules.specs.Replies.{answer_bytes}
 use Rattle.session_rules.specs.Session.{written_as, session_of, AreAnswered}
 use Rattle.frame_bytes.specs.Cuts.{IsCut}

@@ -2,13 +2,13 @@
 #![tactic(auto)]
 
 mod answering;
-pub mod laws;
-mod program;
-mod serving;
-mod status;
-mod top;
-mod words;
+mod frame_serving;
+pub mod laws_of_endings;
+mod session_program;
+mod session_status;
+mod session_top;
+mod session_words;
 
-pub use program::{run, serve};
-pub use status::SessionStatus;
-pub use top::frame_main;
+pub use session_program::{run, serve};
+pub use session_status::SessionStatus;
+pub use session_top::frame_main;

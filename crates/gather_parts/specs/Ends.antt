@@ -5,8 +5,8 @@ use Rattle.store_core.specs.Act.{Outcome}
 use Rattle.run_laws.specs.State.{Sequel, State}
 use Rattle.run_laws.specs.States.{sequel_state}
 use Rattle.store_core.specs.Told.{lost_in}
-use Rattle.gather_parts.specs.declared.ends.Gathered.{Gathered}
-use Rattle.gather_parts.specs.declared.ends.Gathered.TheVariants as gathered
+use Rattle.gather_parts.specs.declared.parts_ends.Gathered.{Gathered}
+use Rattle.gather_parts.specs.declared.parts_ends.Gathered.TheVariants as gathered
 
 -- the state in which the call goes on
 abbrev pub end_state : Sequel → Gathered → State

@@ -6,7 +6,7 @@ use Rattle.store_core.specs.Gathering.{Part}
 use Rattle.store_core.specs.Read.{part_of}
 use Rattle.version_seal.specs.Entry.{StampOf, BookOf}
 use Rattle.call_steps.specs.declared.seen.Seen.{Seen}
-use Rattle.stripe_dir.specs.declared.answers.Look.{Look}
+use Rattle.stripe_dir.specs.declared.directory_answers.Look.{Look}
 use Rattle.stripe_stamps.specs.SeenStripes.{seen_in}
 use Rattle.stripe_dir.specs.Shown.{stripes_seen}
 use Rattle.gathering.specs.Made.{bytes_between}

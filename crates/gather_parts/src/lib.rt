@@ -2,13 +2,13 @@
 //! and what the call took.
 #![tactic(auto)]
 
-mod coding;
-mod ends;
 mod gatherings;
-pub mod laws;
-mod parts;
+pub mod laws_of_parts;
+mod part_bounds;
+mod parts_coding;
+mod parts_ends;
 mod progress;
 
-pub use ends::Gathered;
 pub use gatherings::PartGatherings;
+pub use parts_ends::Gathered;
 pub use progress::Progress;

@@ -10,7 +10,7 @@ ghost use Rattle.store_core.specs.Told.{lost_in};
 
 use crate::aim::CourseAim;
 use crate::ending::Ending;
-use crate::layers::{all_layers, chunks_in_range, wanted_layers};
+use crate::layers_asked::{all_layers, chunks_in_range, wanted_layers};
 use crate::position::{Position, after_given, after_here, after_missing, on_fetch};
 use clay_grid::Geometry;
 use std::alloc::{AllocError, Global};

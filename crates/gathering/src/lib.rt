@@ -3,14 +3,14 @@
 #![tactic(auto)]
 
 mod aim;
-mod coding;
+mod asked_servers;
 mod course;
 mod ending;
 mod gather;
-pub mod laws;
-mod layers;
+mod gather_coding;
+pub mod laws_of_gatherings;
+mod layers_asked;
 mod position;
-mod servers;
 
 pub use course::Course;
 pub use ending::Ending;

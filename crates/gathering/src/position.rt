@@ -5,8 +5,8 @@ ghost use Rattle.gathering.specs.Positions.{IsPlaced};
 ghost use Rattle.gathering.specs.Reaching.{GoesToWhole, GoesToRepair, GoesToMake, GoesToLook, GoesToFetch};
 ghost use Rattle.gathering.specs.Hearing.{IsAsking, IsLate, IsNoTarget, KeepsAim, Hears, HearsMissing, or_too_many};
 
+use crate::asked_servers::next_server;
 use crate::ending::Ending;
-use crate::servers::next_server;
 use clay_grid::Geometry;
 use store_map::Found;
 

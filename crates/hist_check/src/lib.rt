@@ -5,8 +5,9 @@
 mod calls_exist;
 mod changes;
 mod given_up;
+mod judging;
 mod least_missing;
-mod objects;
+mod object_lines;
 mod open_calls;
 mod order;
 mod races;
@@ -16,13 +17,12 @@ mod results;
 mod rising;
 mod sums;
 mod unlisted;
-mod verdict;
 mod verdict_text;
 
 pub use given_up::find_false_reap;
-pub use objects::find_wrong_object;
+pub use judging::check;
+pub use object_lines::find_wrong_object;
 pub use races::find_false_race;
 pub use results::find_false_result;
 pub use sums::find_wrong_sum;
-pub use verdict::check;
 pub use verdict_text::verdict_line;

@@ -2,8 +2,8 @@
 #![tactic(auto)]
 
 mod blame;
-mod chunks;
-mod losses;
+mod chunks_missing;
+mod false_losses;
 
 pub use blame::{blame_unless, downs_fit};
-pub use losses::find_false_loss;
+pub use false_losses::find_false_loss;

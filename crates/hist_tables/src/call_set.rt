@@ -5,7 +5,7 @@ ghost use Rattle.hist_rules.specs.Named.{answered_calls, listed_calls};
 ghost use Rattle.hist_tables.specs.Tables.{has, IsSetOf};
 ghost use Rattle.store_map.specs.declared.call_name.CallName.{CallName};
 
-use crate::lines::NamesCall;
+use crate::lines_of_calls::NamesCall;
 use crate::number_set::NumberSet;
 use std::alloc::{AllocError, Global};
 use store_map::{CallName, Transcript};

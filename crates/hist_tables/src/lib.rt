@@ -4,15 +4,15 @@
 
 mod actor_table;
 mod call_set;
-mod calls;
-mod lines;
+mod call_tables;
+mod lines_of_calls;
 mod number_set;
 mod operator_counts;
 mod reaps;
 
 pub use actor_table::ActorTable;
 pub use call_set::CallSet;
-pub use calls::{call_of, count_calls, number_of, rebuild_of, with_number};
-pub use lines::{NamesCall, count_answers, unanswered_calls};
+pub use call_tables::{call_of, count_calls, number_of, rebuild_of, with_number};
+pub use lines_of_calls::{NamesCall, count_answers, unanswered_calls};
 pub use operator_counts::OperatorCounts;
 pub use reaps::Reaps;

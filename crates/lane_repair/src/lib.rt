@@ -2,12 +2,12 @@
 //! at a time.
 #![tactic(auto)]
 
-mod erased;
+mod erased_column;
 mod read_block;
 mod repair;
 mod repair_plan;
 mod view;
 
-pub use erased::{erased_points, is_column_erased};
+pub use erased_column::{erased_points, is_column_erased};
 pub use repair::{rebuild, rebuild_into};
 pub use view::ChunkView;

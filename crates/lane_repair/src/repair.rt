@@ -7,7 +7,7 @@ ghost use Rattle.lane_repair.specs.Repaired.{IsRepairPlan};
 ghost use Rattle.lane_repair.specs.Views.{pieces_of, HasRoom, ArePieces, IsRebuiltFrom};
 ghost use Rattle.lane_repair.specs.ReadBlocks.{IsReadBlock, IsCoupledIn, IsUncoupledIn, IsPresentIn, HoldsColumnIn, HoldsNodesIn, HoldsRowsIn, HoldsSubchunksIn, KeepsBytesIn};
 
-use crate::erased::is_column_erased;
+use crate::erased_column::is_column_erased;
 use crate::read_block::ReadBlock;
 use crate::repair_plan::{RepairPlan, layer_place, make_repair_plan};
 use crate::view::ChunkView;

@@ -3,15 +3,17 @@
 #![tactic(auto)]
 
 #[cfg(test)]
-mod coders;
+mod fast_coders;
 #[cfg(test)]
-mod columns;
+mod fast_columns;
 #[cfg(test)]
-mod coupling;
+mod fast_coupling;
 #[cfg(test)]
-mod encoding;
+mod fast_encoding;
 #[cfg(test)]
-mod kernels;
+mod fast_kernels;
+#[cfg(test)]
+mod fast_rebuilding;
 #[cfg(test)]
 mod lost_counts;
 #[cfg(test)]
@@ -19,9 +21,7 @@ mod lost_reads;
 #[cfg(test)]
 mod missing_counts;
 #[cfg(test)]
-mod missing_reads;
-#[cfg(test)]
-mod rebuilding;
+mod missing_read_tests;
 #[cfg(test)]
 mod threads;
 

@@ -1,6 +1,6 @@
 //! Pieces of some runs. The numbers are those of a planner in C that shares nothing with the library.
-use crate::encoding::code;
 use crate::expect_same;
+use crate::fast_encoding::code;
 use clay_grid::Geometry;
 use lost_layers::{LostFault, LostPiece, LostRun, lost_count, lost_pieces};
 use std::process::Abort;

@@ -1,5 +1,5 @@
 //! Runs of every chunk of some codes, read from the subchunks that they take.
-use crate::encoding::{code, filled, mixed_bytes};
+use crate::fast_encoding::{code, filled, mixed_bytes};
 use crate::{expect_bytes, expect_same};
 use clay_encode::encode;
 use clay_grid::Geometry;

@@ -1,6 +1,6 @@
 //! Pieces without some chunks.
-use crate::encoding::code;
 use crate::expect_same;
+use crate::fast_encoding::code;
 use clay_grid::Geometry;
 use lost_layers::{LostRun, MissingFault, missing_count, missing_pieces};
 use std::alloc::Global;

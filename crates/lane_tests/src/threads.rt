@@ -2,11 +2,11 @@
 ghost use Rattle.std.specs.Prelude.{◌≡◌, length};
 ghost use Rattle.clay_grid.specs.Shape.{stripe_length};
 
-use crate::coders::{expect_places, left_of};
-use crate::coupling::some_bytes;
-use crate::encoding::{code, expect_chunks, filled, geometries, mixed_bytes};
 use crate::expect_bytes;
-use crate::rebuilding::check_rebuild;
+use crate::fast_coders::{expect_places, left_of};
+use crate::fast_coupling::some_bytes;
+use crate::fast_encoding::{code, expect_chunks, filled, geometries, mixed_bytes};
+use crate::fast_rebuilding::check_rebuild;
 use clay_grid::Geometry;
 use clay_lanes::{LaneCoder, missing_count};
 use clay_model::Coder;

@@ -13,8 +13,8 @@ use Rattle.line_grammar.specs.Numbers.{number_word, IsNumberWord}
 use Rattle.line_grammar.specs.Reads.{ReadsContent, ReadsCall}
 use Rattle.line_grammar.specs.Values.{IsNumber}
 use Rattle.line_grammar.specs.Forms.{IsContentForm, IsCallForm}
-use Rattle.line_grammar.specs.declared.fault.FaultKind.{FaultKind}
-use Rattle.line_grammar.specs.declared.fault.FaultKind.TheVariants.{Syntax, Geometry, Limit, NoSuchActor, NoSuchServer, MissingEnd, OutOfMemory}
+use Rattle.line_grammar.specs.declared.line_fault.FaultKind.{FaultKind}
+use Rattle.line_grammar.specs.declared.line_fault.FaultKind.TheVariants.{Syntax, Geometry, Limit, NoSuchActor, NoSuchServer, MissingEnd, OutOfMemory}
 use Rattle.line_grammar.proofs.LineLaws.{same_parts, never_parted, Lacks-from_test}
 use Rattle.line_grammar.proofs.NumberLaws.{number_lacks}
 

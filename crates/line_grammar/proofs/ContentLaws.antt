@@ -15,8 +15,8 @@ use Rattle.line_grammar.specs.Numbers.{number_word}
 use Rattle.line_grammar.specs.Reads.{IsRunForm, FitsContent, ReadsRun, ReadsContent}
 use Rattle.line_grammar.specs.Forms.{IsContentForm}
 use Rattle.line_grammar.specs.Digits.{is_lower_digit}
-use Rattle.line_grammar.specs.declared.fault.FaultKind.{FaultKind}
-use Rattle.line_grammar.specs.declared.fault.FaultKind.TheVariants.{Syntax, Geometry, Limit, NoSuchActor, NoSuchServer, MissingEnd, OutOfMemory}
+use Rattle.line_grammar.specs.declared.line_fault.FaultKind.{FaultKind}
+use Rattle.line_grammar.specs.declared.line_fault.FaultKind.TheVariants.{Syntax, Geometry, Limit, NoSuchActor, NoSuchServer, MissingEnd, OutOfMemory}
 use Rattle.line_grammar.proofs.DigitLaws.{lower-encode, spelled_by, never_spelled}
 use Rattle.line_grammar.proofs.LineLaws.{same_parts, never_parted, Lacks-from_test}
 

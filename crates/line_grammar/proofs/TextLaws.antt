@@ -4,8 +4,8 @@ use Rattle.std.specs.Prelude.{codes}
 use Rattle.std.proofs.lemmas.Bool.{eqb-false}
 use Rattle.clay_grid.specs.Limits.{IsGeometry, IsFirstFault}
 use Rattle.clay_grid.specs.Shape.{Shape}
-use Rattle.clay_grid.specs.declared.fault.BadGeometry.{BadGeometry}
-use Rattle.clay_grid.specs.declared.fault.BadGeometry.TheVariants.{DataCount, ParityCount, Layers, Width, ChunkSize}
+use Rattle.clay_grid.specs.declared.geometry_fault.BadGeometry.{BadGeometry}
+use Rattle.clay_grid.specs.declared.geometry_fault.BadGeometry.TheVariants.{DataCount, ParityCount, Layers, Width, ChunkSize}
 use Rattle.store_map.specs.Name.{IsName}
 use Rattle.store_map.specs.declared.actor.Token.{Token}
 use Rattle.store_map.specs.declared.actor.Token.TheVariants as token
@@ -17,8 +17,8 @@ use Rattle.line_grammar.specs.Numbers.{number_word}
 use Rattle.line_grammar.specs.Reads.{ReadsNumber}
 use Rattle.line_grammar.specs.ReadsLine.{ReadsNumbered, ReadsToken}
 use Rattle.line_grammar.specs.Values.{IsNumber, token_number}
-use Rattle.line_grammar.specs.declared.fault.FaultKind.{FaultKind}
-use Rattle.line_grammar.specs.declared.fault.FaultKind.TheVariants as kind
+use Rattle.line_grammar.specs.declared.line_fault.FaultKind.{FaultKind}
+use Rattle.line_grammar.specs.declared.line_fault.FaultKind.TheVariants as kind
 use Rattle.line_grammar.proofs.LineLaws.{same_parts}
 use Rattle.line_grammar.proofs.NumberLaws.{number_lacks}
 use Rattle.line_grammar.proofs.CallLaws.{name_lacks_space, heads, one_word}

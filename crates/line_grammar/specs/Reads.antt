@@ -12,8 +12,8 @@ use Rattle.line_grammar.specs.Numbers.{number_word}
 use Rattle.line_grammar.specs.Values.{IsNumber}
 use Rattle.line_grammar.specs.Forms.{IsContentForm, IsCallForm}
 use Rattle.line_grammar.specs.Bounds.{HasCallNumbers}
-use Rattle.line_grammar.specs.declared.fault.FaultKind.{FaultKind}
-use Rattle.line_grammar.specs.declared.fault.FaultKind.TheVariants.{Syntax, Limit, OutOfMemory}
+use Rattle.line_grammar.specs.declared.line_fault.FaultKind.{FaultKind}
+use Rattle.line_grammar.specs.declared.line_fault.FaultKind.TheVariants.{Syntax, Limit, OutOfMemory}
 
 -- reading a text as a value: it was read, or no value has this text, or one has it whose numbers are
 -- out of their bounds

@@ -12,8 +12,8 @@ use Rattle.line_grammar.specs.Reads.{Reads}
 use Rattle.line_grammar.specs.Values.{IsNumber, token_number}
 use Rattle.line_grammar.specs.Forms.{IsOfForm}
 use Rattle.line_grammar.specs.Bounds.{HasShapeNumbers}
-use Rattle.line_grammar.specs.declared.fault.FaultKind.{FaultKind}
-use Rattle.line_grammar.specs.declared.fault.FaultKind.TheVariants.{Geometry}
+use Rattle.line_grammar.specs.declared.line_fault.FaultKind.{FaultKind}
+use Rattle.line_grammar.specs.declared.line_fault.FaultKind.TheVariants.{Geometry}
 
 -- reading a number behind these first bytes
 abbrev pub ReadsNumbered : List ℕ → List ℕ → Result ℕ FaultKind → Type 0

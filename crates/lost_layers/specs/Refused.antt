@@ -3,8 +3,8 @@ use Rattle.std.specs.Prelude.{◌<◌, ◌≤◌, ◌⊎◌}
 use Rattle.clay_grid.specs.Shape.{Shape, chunk_count, layer_count}
 use Rattle.lost_layers.specs.LostLayers.{IsLostRun}
 use Rattle.lost_layers.specs.declared.run.LostRun.{LostRun}
-use Rattle.lost_layers.specs.declared.fault.LostFault.{LostFault}
-use Rattle.lost_layers.specs.declared.fault.LostFault.TheVariants.{NoSuchChunk, NoSuchLayers, OutOfMemory}
+use Rattle.lost_layers.specs.declared.lost_fault.LostFault.{LostFault}
+use Rattle.lost_layers.specs.declared.lost_fault.LostFault.TheVariants.{NoSuchChunk, NoSuchLayers, OutOfMemory}
 
 -- the code has no such chunk; a chunk has no such layers; or there are both, and memory is wanting
 abbrev pub IsRefused : Shape → LostRun → LostFault → Type 0

@@ -2,9 +2,9 @@
 #![tactic(auto)]
 
 mod erased;
-mod fault;
-mod laws;
 mod laws_of_missing;
+mod laws_of_pieces;
+mod lost_fault;
 mod marked;
 mod missing;
 mod missing_fault;
@@ -15,11 +15,11 @@ mod run;
 mod unknown;
 
 pub use erased::ErasedRun;
-pub use fault::LostFault;
-pub use laws::{
+pub use laws_of_missing::missing_pieces_determine;
+pub use laws_of_pieces::{
     pieces_determine_runs, pieces_of_one_layer, ranges_are_coded, reads_stay_within_repairs,
 };
-pub use laws_of_missing::missing_pieces_determine;
+pub use lost_fault::LostFault;
 pub use marked::MarkedRun;
 pub use missing::{missing_count, missing_pieces, readable_run};
 pub use missing_fault::MissingFault;

@@ -6,7 +6,7 @@ ghost use Rattle.lost_layers.specs.LostPieces.{lost_layers_of, lost_pieces_of, p
 ghost use Rattle.lost_layers.specs.Refused.{IsRefused};
 ghost use Rattle.lost_layers.specs.Placing.{IsPlaced};
 
-use crate::fault::LostFault;
+use crate::lost_fault::LostFault;
 use crate::placed::PlacedRun;
 use crate::run::{LostPiece, LostRun};
 use clay_grid::Geometry;

@@ -8,7 +8,7 @@ use Rattle.lost_layers.specs.Without.{gone_count, IsRefused}
 use Rattle.lost_layers.specs.declared.missing_fault.MissingFault.{MissingFault}
 use Rattle.lost_layers.specs.declared.missing_fault.MissingFault.TheVariants.{NoSuchChunk, NoSuchLayers, MarkCount, TooFew, OutOfMemory}
 use Rattle.lost_read.specs.MissingRefused.{IsReadRefused}
-use Rattle.lost_read.specs.declared.missing_fault.MissingReadFault.{MissingReadFault}
+use Rattle.lost_read.specs.declared.missing_read_fault.MissingReadFault.{MissingReadFault}
 use Rattle.lost_read.specs.There.{there_of}
 
 module _ (g : Shape) (run : LostRun) (there : List Bool) where

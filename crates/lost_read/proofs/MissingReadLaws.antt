@@ -43,8 +43,8 @@ use Rattle.lost_read.specs.MissingRead.{HasPieces}
 use Rattle.lost_read.specs.MissingPlan.{rank, AreRanks}
 use Rattle.lost_read.specs.MissingReadings.{run_of, IsReading, IsMateIn, HoldsRunIn, IsRunIn}
 use Rattle.lost_read.specs.MissingRefused.{IsMisfit, IsUnread, IsReadRefused}
-use Rattle.lost_read.specs.declared.missing_fault.MissingReadFault.{MissingReadFault}
-use Rattle.lost_read.specs.declared.missing_fault.MissingReadFault.TheVariants.{Run, PieceCount, PieceLength, Room}
+use Rattle.lost_read.specs.declared.missing_read_fault.MissingReadFault.{MissingReadFault}
+use Rattle.lost_read.specs.declared.missing_read_fault.MissingReadFault.TheVariants.{Run, PieceCount, PieceLength, Room}
 use Rattle.lost_read.specs.declared.missing_reading.Reading.{Reading}
 
 -- ---- the places of the pieces

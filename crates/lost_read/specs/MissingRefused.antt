@@ -7,8 +7,8 @@ use Rattle.lost_layers.specs.Erased.{Erased}
 use Rattle.lost_layers.specs.ErasedPieces.{pieces_of}
 use Rattle.lost_layers.specs.declared.missing_fault.MissingFault.TheVariants.{OutOfMemory}
 use Rattle.lost_layers.specs.Without.{missing_pieces_of, IsReadable, IsRefused}
-use Rattle.lost_read.specs.declared.missing_fault.MissingReadFault.{MissingReadFault}
-use Rattle.lost_read.specs.declared.missing_fault.MissingReadFault.TheVariants.{Run, PieceCount, PieceLength, Room}
+use Rattle.lost_read.specs.declared.missing_read_fault.MissingReadFault.{MissingReadFault}
+use Rattle.lost_read.specs.declared.missing_read_fault.MissingReadFault.TheVariants.{Run, PieceCount, PieceLength, Room}
 
 -- there is another number of pieces; or one isn't as long as a subchunk; or there is room for another number of bytes
 abbrev pub IsMisfit : Shape → LostRun → ℕ → List (List ℕ) → ℕ → MissingReadFault → Type 0

@@ -9,7 +9,7 @@ use Rattle.lost_layers.specs.LostPieces.{lost_pieces_of, piece_at}
 use Rattle.lost_layers.specs.Placing.{IsPlaced}
 use Rattle.lost_layers.specs.declared.placed.PlacedRun.{PlacedRun}
 use Rattle.lost_layers.specs.declared.run.LostPiece.{LostPiece}
-use Rattle.lost_read.specs.declared.plan.ReadPlan.{ReadPlan}
+use Rattle.lost_read.specs.declared.read_plan.ReadPlan.{ReadPlan}
 
 -- each is a subchunk of the code
 abbrev pub AreSubchunks : Shape → List LostPiece → Type 0

@@ -6,8 +6,8 @@ use Rattle.lost_layers.specs.LostPieces.{lost_pieces_of}
 use Rattle.lost_layers.specs.Refused.{IsRefused}
 use Rattle.lost_layers.specs.declared.run.LostRun.{LostRun}
 use Rattle.lost_read.specs.Read.{AreLong}
-use Rattle.lost_read.specs.declared.fault.ReadFault.{ReadFault}
-use Rattle.lost_read.specs.declared.fault.ReadFault.TheVariants.{Run, PieceCount, PieceLength, Room}
+use Rattle.lost_read.specs.declared.read_fault.ReadFault.{ReadFault}
+use Rattle.lost_read.specs.declared.read_fault.ReadFault.TheVariants.{Run, PieceCount, PieceLength, Room}
 
 -- the run is refused by itself; or it takes another number of pieces; or one isn't as long as a subchunk; or there is room for another number
 -- of bytes

@@ -1,19 +1,19 @@
 //! Layers of a lost chunk, read from the subchunks that `lost_layers` lists, while all other chunks are there, or others are missing too.
 #![tactic(auto)]
 
-mod fault;
-mod missing_fault;
 mod missing_plan;
+mod missing_read_fault;
 mod missing_reading;
 mod missing_reads;
-mod places;
-mod plan;
-mod read;
+mod pieces_read;
+mod read_fault;
+mod read_places;
+mod read_plan;
 mod reading;
 mod there;
 
-pub use fault::ReadFault;
-pub use missing_fault::MissingReadFault;
+pub use missing_read_fault::MissingReadFault;
 pub use missing_reads::read_missing;
-pub use read::{read_lost, read_pieces};
+pub use pieces_read::{read_lost, read_pieces};
+pub use read_fault::ReadFault;
 pub use there::{are_few, count_without, pieces_without, read_without};

@@ -5,7 +5,7 @@ ghost use Rattle.lost_layers.specs.ErasedPieces.{pieces_of};
 ghost use Rattle.lost_layers.specs.ErasedRuns.{solved_of, IsSolvedRun};
 ghost use Rattle.lost_read.specs.MissingPlan.{AreRanks, IsReadPlan};
 
-use crate::places::places_of;
+use crate::read_places::places_of;
 use clay_kernels::{Products, fifths, halves, zeros};
 use generator_matrix::{Generator, generator_of};
 use lane_repair::erased_points;

@@ -11,7 +11,7 @@ ghost use Rattle.lost_read.specs.MissingReadings.{run_of, IsReading, IsCoupledIn
 ghost use Rattle.lost_read.specs.Values.{values_length, HoldsRowsIn, AddsNodeIn, HoldsLayerIn, HoldsLowerIn, HoldsAllIn, AddsLayerIn};
 
 use crate::missing_plan::ReadPlan;
-use crate::places::{bytes_at, place_of};
+use crate::read_places::{bytes_at, place_of};
 use clay_kernels::{couple, cross, uncouple, uncouple_from, zeros};
 use clay_model::{Subchunk, partner_of};
 use lost_layers::SolvedRun;

@@ -7,10 +7,10 @@ ghost use Rattle.lost_layers.specs.ErasedRuns.{solved_of, IsSolvedRun};
 ghost use Rattle.lost_read.specs.MissingRead.{FitRun, FitErased, IsReadableFrom, IsReadFrom, IsRunFrom};
 ghost use Rattle.lost_read.specs.MissingRefused.{IsMisfit, IsUnread, IsReadRefused};
 
-use crate::missing_fault::MissingReadFault;
 use crate::missing_plan::ReadPlan;
+use crate::missing_read_fault::MissingReadFault;
 use crate::missing_reading::Reading;
-use crate::places::are_subchunks;
+use crate::read_places::are_subchunks;
 use clay_grid::Geometry;
 use lost_layers::{LostPiece, LostRun, MarkedRun, PlacedRun, SolvedRun, readable_run};
 use std::alloc::{AllocError, Global};

@@ -6,8 +6,8 @@ ghost use Rattle.lost_layers.specs.LostPieces.{is_piece, lost_pieces_of};
 ghost use Rattle.lost_read.specs.Plan.{StandsFor};
 ghost use Rattle.lost_read.specs.Readings.{IsReading, IsCoupledIn, IsUncoupledIn, HoldsSumIn, IsMateIn, HoldsRunIn};
 
-use crate::places::{bytes_at, place_of};
-use crate::plan::ReadPlan;
+use crate::read_places::{bytes_at, place_of};
+use crate::read_plan::ReadPlan;
 use clay_kernels::{add_rows, cross, uncouple};
 use clay_model::{Subchunk, partner_of};
 

@@ -7,7 +7,7 @@ ghost use Rattle.lost_layers.specs.declared.missing_fault.MissingFault.TheVarian
 ghost use Rattle.lost_read.specs.MissingRead.{FitRun};
 ghost use Rattle.lost_read.specs.There.{there_of, gone_with, pieces_with, ReadsWithout};
 
-use crate::missing_fault::MissingReadFault;
+use crate::missing_read_fault::MissingReadFault;
 use crate::missing_reads::read_missing;
 use clay_grid::Geometry;
 use lost_layers::{LostPiece, LostRun, MissingFault, missing_count, missing_pieces, readable_run};

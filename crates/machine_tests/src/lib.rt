@@ -4,20 +4,20 @@
 #![tactic(auto)]
 
 #[cfg(test)]
-mod answers;
-#[cfg(test)]
 mod away;
 #[cfg(test)]
-mod losses;
+mod call_answers;
 #[cfg(test)]
 mod patches;
 #[cfg(test)]
 mod puts;
 #[cfg(test)]
-mod races;
-#[cfg(test)]
 mod reads;
 #[cfg(test)]
-mod rebuilds;
+mod step_losses;
 #[cfg(test)]
-mod worked;
+mod worked_calls;
+#[cfg(test)]
+mod worked_races;
+#[cfg(test)]
+mod worked_rebuilds;

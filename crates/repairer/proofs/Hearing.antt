@@ -10,9 +10,9 @@ use Rattle.store_core.specs.AtDirectory.{at_directory}
 use Rattle.store_core.specs.Server.{Server, at_server}
 use Rattle.store_core.specs.Tokens.{actor_of}
 use Rattle.version_seal.specs.Sealed.{ChunkOf}
-use Rattle.chunk_server.specs.declared.answers.Installed.{Installed}
+use Rattle.chunk_server.specs.declared.server_answers.Installed.{Installed}
 use Rattle.chunk_server.specs.Core.{told_installed}
-use Rattle.stripe_dir.specs.declared.answers.RepairLook.{RepairLook}
+use Rattle.stripe_dir.specs.declared.directory_answers.RepairLook.{RepairLook}
 use Rattle.stripe_dir.specs.Answers.{told_by_repair_look}
 use Rattle.call_steps.specs.declared.answer.DirectoryAnswer.{DirectoryAnswer}
 use Rattle.call_steps.specs.declared.seen.Seen.{Seen}

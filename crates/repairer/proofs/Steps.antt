@@ -15,8 +15,8 @@ use Rattle.run_laws.specs.States.{open_state}
 use Rattle.run_laws.specs.GatherAfter.{ending_after, confirming_after}
 use Rattle.version_seal.specs.Entry.{BookOf}
 use Rattle.call_steps.specs.CallOf.{heard}
-use Rattle.stripe_dir.specs.declared.answers.Ended.{Ended}
-use Rattle.stripe_dir.specs.declared.answers.Ended.TheVariants as answer
+use Rattle.stripe_dir.specs.declared.directory_answers.Ended.{Ended}
+use Rattle.stripe_dir.specs.declared.directory_answers.Ended.TheVariants as answer
 use Rattle.stripe_dir.specs.Answers.{told_ended}
 use Rattle.call_steps.specs.TokenAfter.{token_after, IsSeated}
 use Rattle.call_steps.specs.Steps.{stepped_at_directory, stepped_at_server}

@@ -4,8 +4,8 @@
 
 mod at_directory;
 mod at_servers;
-mod coding;
 mod repair_call;
+mod repair_coding;
 mod stage;
 
 pub use repair_call::RepairCall;

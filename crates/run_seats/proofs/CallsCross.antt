@@ -16,8 +16,8 @@ use Rattle.call_steps.specs.contracts.seen.Seen as seen
 use Rattle.dir_tickets.specs.contracts.ticket.Ticket as ticket
 use Rattle.gather_parts.specs.contracts.gatherings.PartGatherings as gatherings
 use Rattle.write_course.specs.contracts.writing.Writing as writing
-use Rattle.client_read.specs.contracts.read.ReadCall.TheInside as read_inside
-use Rattle.client_read.specs.contracts.read.ReadCall as read
+use Rattle.client_read.specs.contracts.read_call.ReadCall.TheInside as read_inside
+use Rattle.client_read.specs.contracts.read_call.ReadCall as read
 use Rattle.client_put.specs.contracts.put.PutCall.TheInside as put_inside
 use Rattle.client_put.specs.contracts.put.PutCall as put
 use Rattle.client_patch.specs.contracts.patch.PatchCall.TheInside as patch_inside

@@ -42,7 +42,7 @@ use Rattle.run_seats.specs.declared.server_box.ServerIdentity.{ServerIdentity}
 use Rattle.run_seats.specs.declared.directory_box.DirectoryIdentity.{DirectoryIdentity}
 use Rattle.run_seats.specs.declared.seated.Seated.{Seated}
 use Rattle.run_seats.specs.declared.store.Store.{Store}
-use Rattle.run_seats.specs.declared.turns.Turns.{Turns}
+use Rattle.run_seats.specs.declared.seat_turns.Turns.{Turns}
 use Rattle.run_seats.proofs.Owing.{called_owes, coded_owes, grows_now, left_owes, owes_there}
 use Rattle.run_seats.proofs.Placing.{count_seen, log_here, seen_here, turns_here, turns_there}
 use Rattle.run_seats.proofs.Seating.{call_book, is_ready, knows_itself, of_ready, of_script, room}

@@ -33,7 +33,7 @@ use Rattle.run_seats.specs.declared.server_box.ServerIdentity.{ServerIdentity}
 use Rattle.run_seats.specs.declared.directory_box.DirectoryIdentity.{DirectoryIdentity}
 use Rattle.run_seats.specs.declared.seated_operator.SeatedOperator.{SeatedOperator}
 use Rattle.run_seats.specs.declared.store.Store.{Store}
-use Rattle.run_seats.specs.declared.turns.Turns.{Turns}
+use Rattle.run_seats.specs.declared.seat_turns.Turns.{Turns}
 use Rattle.run_seats.proofs.Placing.{count_seen, log_at, log_here, seen_here, turns_here, turns_there}
 
 -- ---- the server of a line

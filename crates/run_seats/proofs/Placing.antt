@@ -17,7 +17,7 @@ use Rattle.run_seats.specs.Turns.{IsFree}
 use Rattle.run_seats.specs.declared.server_box.ServerIdentity.{ServerIdentity}
 use Rattle.run_seats.specs.declared.directory_box.DirectoryIdentity.{DirectoryIdentity}
 use Rattle.run_seats.specs.declared.store.Store.{Store}
-use Rattle.run_seats.specs.declared.turns.Turns.{Turns}
+use Rattle.run_seats.specs.declared.seat_turns.Turns.{Turns}
 
 -- what holds of each element with its place holds after a change that keeps it there
 each_set : {X : Type 0} (P : ℕ → X → Type 0) (xs : List X) (i : ℕ) (x : X) → ((k : ℕ) (t : X) → slice_get xs k ≡ Some t → P k t) → P i x

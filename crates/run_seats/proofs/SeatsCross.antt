@@ -32,7 +32,7 @@ use Rattle.run_seats.specs.contracts.seated_operator.SeatedOperator as operator
 use Rattle.run_seats.specs.contracts.seated_sweeper.SeatedSweeper as sweeper
 use Rattle.run_seats.specs.contracts.shift.Shifts as shifts
 use Rattle.run_seats.specs.contracts.store.Store as store
-use Rattle.run_seats.specs.contracts.turns.Turns as turns
+use Rattle.run_seats.specs.contracts.seat_turns.Turns as turns
 use Rattle.run_seats.specs.contracts.workers.Worker as worker
 
 server_box_send : IsSend server_box.the_row

@@ -16,7 +16,7 @@ use Rattle.thread_laws.specs.Stepped.{last_own}
 use Rattle.run_seats.specs.declared.directory_box.DirectoryIdentity.{DirectoryIdentity}
 use Rattle.run_seats.specs.declared.server_box.ServerIdentity.{ServerIdentity}
 use Rattle.run_seats.specs.declared.store.Store.{Store}
-use Rattle.run_seats.specs.declared.turns.Turns.{Turns}
+use Rattle.run_seats.specs.declared.seat_turns.Turns.{Turns}
 
 -- what never changes about the directory of a script's store, and about a server of it
 abbrev pub directory_for : Script → BookOf → DirectoryIdentity

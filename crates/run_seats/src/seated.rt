@@ -6,10 +6,10 @@ ghost use Rattle.run_seats.specs.Seated.{IsSeated, MayStep, StepsOn, left_by, se
 
 use crate::directory_steps::step_at_directory;
 use crate::gate::Gate;
+use crate::seat_turns::Turns;
 use crate::server_steps::step_at_server;
 use crate::stepper::Stepper;
 use crate::store::Store;
-use crate::turns::Turns;
 use actors::Caller;
 use call_steps::Need;
 use clay_model::Coder;

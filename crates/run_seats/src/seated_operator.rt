@@ -8,9 +8,9 @@ ghost use Rattle.run_seats.specs.SeatedPlain.{IsOperator, IsTarget, MayOperate, 
 
 use crate::gate::Gate;
 use crate::operations::{operate_server, reap};
+use crate::seat_turns::Turns;
 use crate::stepper::Stepper;
 use crate::store::Store;
-use crate::turns::Turns;
 use std::sync::Wait;
 use store_map::{Actor, Token};
 

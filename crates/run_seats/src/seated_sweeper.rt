@@ -6,10 +6,10 @@ ghost use Rattle.run_seats.specs.Places.{last_by};
 ghost use Rattle.run_seats.specs.SeatedPlain.{MaySweep, SweepsOn};
 
 use crate::gate::Gate;
+use crate::seat_turns::Turns;
 use crate::stepper::Stepper;
 use crate::store::Store;
 use crate::sweeps::{sweep_directory, sweep_server};
-use crate::turns::Turns;
 use call_steps::Need;
 use std::sync::Wait;
 use store_map::Actor;

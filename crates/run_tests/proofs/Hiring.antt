@@ -3,7 +3,7 @@ use Rattle.std.proofs.Common.{◌≡◌, ℕ, zero, suc, List, [], ◌∷◌, �
 use Rattle.atomic_table.specs.Seated.{TableId}
 use Rattle.turn_lock.specs.History.{is_among}
 use Rattle.turn_lock.specs.TurnState.{TurnState, new_turn}
-use Rattle.run_tests.specs.declared.workers.Worker.{Worker}
+use Rattle.run_tests.specs.declared.worker_tests.Worker.{Worker}
 use Rattle.run_tests.specs.Workers.{IsReady}
 
 pub without_last : {A : Type 0} (P : ℕ → A → Type 0) (xs : List A) (x : A) → ((k : ℕ) → IfSome (slice_get (xs ++ x ∷ []) k) (P k)) → (k : ℕ) → IfSome (slice_get xs k) (P k)

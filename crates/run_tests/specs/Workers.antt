@@ -2,7 +2,7 @@
 use Rattle.std.specs.Prelude.{◌≡◌, ℕ, false, length}
 use Rattle.atomic_table.specs.Seated.{TableId}
 use Rattle.turn_lock.specs.History.{Among, entries_of}
-use Rattle.run_tests.specs.declared.workers.Worker.{Worker}
+use Rattle.run_tests.specs.declared.worker_tests.Worker.{Worker}
 
 -- the worker's turn is of this lock, holds nothing, and has the worker's number
 pub record IsReady (lock : TableId) (worker : Worker) : Type 0 where

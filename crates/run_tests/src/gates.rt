@@ -1,6 +1,6 @@
 //! The gates of all runs here, as one type: a whole run is built anew for each kind of gate and of coder.
 use crate::locked_steps::PlaceGate;
-use crate::sweeps::SweepGate;
+use crate::sweep_tests::SweepGate;
 use store_map::Actor;
 use store_run::{Gate, Place};
 

@@ -7,37 +7,37 @@
 #[cfg(test)]
 mod adding;
 #[cfg(test)]
-mod coders;
-#[cfg(test)]
-mod faults;
-#[cfg(test)]
 mod gates;
 #[cfg(test)]
-mod generated;
+mod generated_runs;
 #[cfg(test)]
 mod lock_turns;
 #[cfg(test)]
 mod locked_steps;
 mod number_list;
 #[cfg(test)]
-mod rows;
+mod run_coders;
 #[cfg(test)]
 mod runs;
 #[cfg(test)]
-mod scripts;
+mod script_runs;
 #[cfg(test)]
 mod session_coders;
 #[cfg(test)]
+mod session_faults;
+#[cfg(test)]
+mod session_row_tests;
+#[cfg(test)]
 mod session_runs;
 #[cfg(test)]
-mod snapshots;
+mod session_word_tests;
 #[cfg(test)]
-mod sweeps;
+mod snapshot_tests;
 #[cfg(test)]
-mod words;
-mod workers;
+mod sweep_tests;
+mod worker_tests;
 #[cfg(test)]
 mod working;
 
 pub use number_list::{Line, NumberList};
-pub use workers::Worker;
+pub use worker_tests::Worker;

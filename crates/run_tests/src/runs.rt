@@ -14,8 +14,8 @@ use std::thread::Threads;
 use store_map::{Script, Transcript};
 use store_run::run;
 use text_tables::counting::Counting;
-use text_tables::faults::parts;
-use text_tables::scripts::repeated;
+use text_tables::fault_tables::parts;
+use text_tables::table_scripts::repeated;
 
 /// In so many threads each script is run.
 pub const WORKERS: [usize; 4] = [1, 2, 4, 16];

@@ -4,7 +4,7 @@ ghost use Rattle.run_tests.specs.Workers.{IsReady, line_count};
 
 use crate::adding::add;
 use crate::number_list::{Line, NumberList};
-use crate::workers::Worker;
+use crate::worker_tests::Worker;
 use std::alloc::{AllocError, Global};
 use std::sync::Wait;
 use std::thread;

@@ -5,8 +5,8 @@ use line_grammar::FaultKind::{
 use script_text::ScriptFault;
 use std::alloc::{AllocError, Global};
 use std::test::Fail;
-use text_tables::faults::{parts, same};
-use text_tables::scripts::{HEAD, begins_with, has_faults};
+use text_tables::fault_tables::{parts, same};
+use text_tables::table_scripts::{HEAD, begins_with, has_faults};
 
 // The second line's form goes before its geometry and before a limit, and a limit before the geometry.
 const FIRST_TWO_LINES: &[u8] = b"\

@@ -2,7 +2,7 @@
 use clay_gen::generate;
 use script_text::write_script;
 use std::test::Fail;
-use text_tables::faults::same;
+use text_tables::fault_tables::same;
 
 // Of 10007, by another program.
 const ONE_CALL: &[u8] = b"\

@@ -7,7 +7,7 @@ mod faults;
 #[cfg(test)]
 mod generated;
 #[cfg(test)]
-mod limits;
+mod limit_tests;
 #[cfg(test)]
 mod scripts;
 #[cfg(test)]

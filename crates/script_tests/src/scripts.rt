@@ -4,9 +4,9 @@ use script_text::{read_script, write_script};
 use std::alloc::Global;
 use std::test::Fail;
 use store_map::{Script, Token};
-use text_tables::faults::{failed, parts, rows_of, same};
-use text_tables::lines::unfolded;
-use text_tables::scripts::{begins_with, script_of};
+use text_tables::fault_tables::{failed, parts, rows_of, same};
+use text_tables::table_lines::unfolded;
+use text_tables::table_scripts::{begins_with, script_of};
 
 // A script of larger data, with 201 lines in its schedule.
 const LARGE: &[u8] = b"\

@@ -2,7 +2,7 @@
 use std::alloc::Global;
 use std::test::Fail;
 use store_map::Transcript;
-use text_tables::faults::{Around, Reader, have_faults, same};
+use text_tables::fault_tables::{Around, Reader, have_faults, same};
 use transcript_read::read_transcript;
 use transcript_text::write_transcript;
 

@@ -5,7 +5,7 @@ use store_map::{
     CallName, Cause, ClientCall, Found, GLine, HLine, LLine, ListOf, Name, OLine, Placement, RLine,
     RepairCall, RepairResult, Reply, Shown, TLine, Transcript, Triple, XLine,
 };
-use text_tables::faults::same;
+use text_tables::fault_tables::same;
 use transcript_text::write_transcript;
 
 const TEXT: &str = "\

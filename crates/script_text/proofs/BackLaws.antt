@@ -26,9 +26,9 @@ use Rattle.script_text.specs.Reader.{opened}
 use Rattle.line_grammar.specs.Values.{IsNumber, IsContent, IsCall, IsRebuild, IsScript}
 use Rattle.line_grammar.specs.Forms.{IsContentForm, IsCallForm, IsOfForm, IsLineOfForm, HasForm}
 use Rattle.line_grammar.specs.Bounds.{HasNumbers, HasContentNumbers, HasCallNumbers}
-use Rattle.script_text.specs.declared.place.LineKind.TheVariants as kind
-use Rattle.script_text.specs.declared.place.ScriptPlace.{ScriptPlace}
-use Rattle.script_text.specs.declared.place.ScriptPlace.TheVariants as place
+use Rattle.script_text.specs.declared.script_place.LineKind.TheVariants as kind
+use Rattle.script_text.specs.declared.script_place.ScriptPlace.{ScriptPlace}
+use Rattle.script_text.specs.declared.script_place.ScriptPlace.TheVariants as place
 use Rattle.script_text.proofs.StepLaws.{All-front, few_calls, few_rebuilds, short_call, short_data, client_values, repairer_values, limited_client, limited_repairer, known_server, known_servers, small_token, calls_of, calls_of-call, no_tokens, empty_client, empty_repairer, with_call, with_rebuild, clients_with, repairers_with, schedule_with, call_clients, rebuild_repairers}
 
 -- a list is empty or has a last item

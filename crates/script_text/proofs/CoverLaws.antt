@@ -26,11 +26,11 @@ use Rattle.script_text.specs.Spelling.{script_lines, spelling}
 use Rattle.line_grammar.specs.Forms.{IsForm, IsOfForm, IsLineOfForm, HasForm}
 use Rattle.line_grammar.specs.Bounds.{HasNumbers}
 use Rattle.line_grammar.specs.Values.{IsNumber, IsScript}
-use Rattle.line_grammar.specs.declared.fault.FaultKind.{FaultKind}
-use Rattle.line_grammar.specs.declared.fault.FaultKind.TheVariants as fault
-use Rattle.script_text.specs.declared.place.LineKind.TheVariants as kind
-use Rattle.script_text.specs.declared.place.ScriptPlace.{ScriptPlace}
-use Rattle.script_text.specs.declared.place.ScriptPlace.TheVariants as place
+use Rattle.line_grammar.specs.declared.line_fault.FaultKind.{FaultKind}
+use Rattle.line_grammar.specs.declared.line_fault.FaultKind.TheVariants as fault
+use Rattle.script_text.specs.declared.script_place.LineKind.TheVariants as kind
+use Rattle.script_text.specs.declared.script_place.ScriptPlace.{ScriptPlace}
+use Rattle.script_text.specs.declared.script_place.ScriptPlace.TheVariants as place
 use Rattle.script_text.proofs.FrameLaws.{begun_line, no_clay, no_code}
 use Rattle.script_text.proofs.ReaderLaws.{tries_place, client_place, repairer_place, schedule_place, leave_at, names_part, call_value, call_place, call_behind, rebuild_place, rebuild_behind}
 use Rattle.script_text.proofs.ScriptLaws.{ended_lines, front_fault, front_missing, one_more}

@@ -17,9 +17,9 @@ use Rattle.script_text.specs.SoFar.{IsAt}
 use Rattle.line_grammar.specs.Line.{Line, ClayLine, CodeLine, SizeLine, TriesLine, ClientLine, RepairerLine, LeaveLine, CallLine, RebuildLine, ScheduleLine, StepLine, EndLine}
 use Rattle.script_text.specs.Place.{next_place}
 use Rattle.script_text.specs.Spelling.{limited, client_lines, repairer_lines, optional_line}
-use Rattle.script_text.specs.declared.place.LineKind.TheVariants as kind
-use Rattle.script_text.specs.declared.place.ScriptPlace.{ScriptPlace}
-use Rattle.script_text.specs.declared.place.ScriptPlace.TheVariants as place
+use Rattle.script_text.specs.declared.script_place.LineKind.TheVariants as kind
+use Rattle.script_text.specs.declared.script_place.ScriptPlace.{ScriptPlace}
+use Rattle.script_text.specs.declared.script_place.ScriptPlace.TheVariants as place
 use Rattle.script_text.proofs.StepLaws.{empty_client, empty_repairer, with_call, with_rebuild, call_clients, rebuild_repairers}
 
 -- lines before the blocks

@@ -21,7 +21,7 @@ use Rattle.line_grammar.specs.Lines.{Lacks, spaced}
 use Rattle.line_grammar.specs.Numbers.{number_word}
 use Rattle.line_grammar.specs.Forms.{IsContentForm, IsCallForm, HasForm}
 use Rattle.line_grammar.specs.Digits.{is_lower_digit}
-use Rattle.script_text.specs.declared.place.LineKind.TheVariants as kind
+use Rattle.script_text.specs.declared.script_place.LineKind.TheVariants as kind
 use Rattle.line_grammar.proofs.CallLaws.{call_text, put_parts, write_parts, get_only, read_parts, stat_only, delete_only, name_lacks_space, name_lacks_feed, heads}
 use Rattle.line_grammar.proofs.ContentLaws.{one_byte, byte_lacks_colon, run_parts, hex_only, fill_only, ramp_only}
 use Rattle.line_grammar.proofs.DigitLaws.{lower-encode}

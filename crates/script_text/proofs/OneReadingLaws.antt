@@ -20,10 +20,10 @@ use Rattle.script_text.specs.Spelling.{script_lines, spelling}
 use Rattle.line_grammar.specs.Forms.{HasForm}
 use Rattle.line_grammar.specs.Bounds.{HasNumbers}
 use Rattle.line_grammar.specs.Values.{IsScript}
-use Rattle.line_grammar.specs.declared.fault.FaultKind.{FaultKind}
-use Rattle.line_grammar.specs.declared.fault.FaultKind.TheVariants as fault
-use Rattle.script_text.specs.declared.place.ScriptPlace.{ScriptPlace}
-use Rattle.script_text.specs.declared.place.ScriptPlace.TheVariants as place
+use Rattle.line_grammar.specs.declared.line_fault.FaultKind.{FaultKind}
+use Rattle.line_grammar.specs.declared.line_fault.FaultKind.TheVariants as fault
+use Rattle.script_text.specs.declared.script_place.ScriptPlace.{ScriptPlace}
+use Rattle.script_text.specs.declared.script_place.ScriptPlace.TheVariants as place
 use Rattle.script_text.proofs.BackLaws.{last_item, HasBefore, before}
 use Rattle.script_text.proofs.FrameLaws.{begun_line, no_code}
 use Rattle.line_grammar.proofs.LineLaws.{same_parts, never_parted, line_front}

@@ -38,14 +38,14 @@ use Rattle.line_grammar.specs.Reads.{ReadsCall, FitsCall}
 use Rattle.line_grammar.specs.Values.{IsNumber, IsContent, IsCall, token_number}
 use Rattle.line_grammar.specs.Forms.{IsOfForm, IsLineOfForm, HasForm, IsContentForm, IsCallForm}
 use Rattle.line_grammar.specs.Bounds.{HasNumbers}
-use Rattle.line_grammar.specs.declared.fault.FaultKind.{FaultKind}
-use Rattle.line_grammar.specs.declared.fault.FaultKind.TheVariants as fault
+use Rattle.line_grammar.specs.declared.line_fault.FaultKind.{FaultKind}
+use Rattle.line_grammar.specs.declared.line_fault.FaultKind.TheVariants as fault
 use Rattle.script_text.specs.declared.load.Load.{Load}
-use Rattle.script_text.specs.declared.place.LineKind.{LineKind}
-use Rattle.script_text.specs.declared.place.LineKind.TheVariants as kind
-use Rattle.script_text.specs.declared.place.ScriptPlace.{ScriptPlace}
-use Rattle.script_text.specs.declared.place.ScriptPlace.TheVariants as place
-use Rattle.script_text.specs.declared.reader.Reader.{Reader}
+use Rattle.script_text.specs.declared.script_place.LineKind.{LineKind}
+use Rattle.script_text.specs.declared.script_place.LineKind.TheVariants as kind
+use Rattle.script_text.specs.declared.script_place.ScriptPlace.{ScriptPlace}
+use Rattle.script_text.specs.declared.script_place.ScriptPlace.TheVariants as place
+use Rattle.script_text.specs.declared.script_reader.Reader.{Reader}
 use Rattle.line_grammar.proofs.LineLaws.{same_parts, never_parted, Lacks-literal}
 use Rattle.script_text.proofs.StepLaws.{size_step, tries_step, client_step, repairer_step, calls_of, calls_of-empty, empty_client, empty_repairer, step_step, All-front, few_calls, few_rebuilds, with_call, with_rebuild, clients_with, repairers_with, calls_of-call, call_limits, call_limits_back, call_values, call_names, call_clients, rebuild_limits, rebuild_limits_back, rebuild_values, rebuild_names, rebuild_repairers}
 

@@ -26,13 +26,13 @@ use Rattle.line_grammar.specs.Lines.{Lacks, spaced}
 use Rattle.script_text.specs.Reader.{script_of, opened, IsSound, Takes}
 use Rattle.line_grammar.specs.ReadsLine.{ReadsCode}
 use Rattle.script_text.specs.Spelling.{limited, client_lines, repairer_lines, optional_line, script_lines, spelling}
-use Rattle.line_grammar.specs.declared.fault.FaultKind.{FaultKind}
-use Rattle.line_grammar.specs.declared.fault.FaultKind.TheVariants as fault
-use Rattle.script_text.specs.declared.fault.ScriptFault.{ScriptFault}
-use Rattle.script_text.specs.declared.place.LineKind.TheVariants as kind
-use Rattle.script_text.specs.declared.place.ScriptPlace.{ScriptPlace}
-use Rattle.script_text.specs.declared.place.ScriptPlace.TheVariants as place
-use Rattle.script_text.specs.declared.reader.Reader.{Reader}
+use Rattle.line_grammar.specs.declared.line_fault.FaultKind.{FaultKind}
+use Rattle.line_grammar.specs.declared.line_fault.FaultKind.TheVariants as fault
+use Rattle.script_text.specs.declared.script_fault.ScriptFault.{ScriptFault}
+use Rattle.script_text.specs.declared.script_place.LineKind.TheVariants as kind
+use Rattle.script_text.specs.declared.script_place.ScriptPlace.{ScriptPlace}
+use Rattle.script_text.specs.declared.script_place.ScriptPlace.TheVariants as place
+use Rattle.script_text.specs.declared.script_reader.Reader.{Reader}
 use Rattle.script_text.proofs.FrameLaws.{begun_line}
 use Rattle.line_grammar.proofs.LineLaws.{line_front}
 use Rattle.script_text.proofs.StepLaws.{few_calls, few_rebuilds}

@@ -18,8 +18,8 @@ use Rattle.script_text.specs.Behind.{on_last, pending, with_line}
 use Rattle.script_text.specs.SoFar.{IsBare, IsBegun}
 use Rattle.line_grammar.specs.Line.{SizeLine, TriesLine, ClientLine, RepairerLine, CallLine, RebuildLine, StepLine}
 use Rattle.line_grammar.specs.Values.{IsNumber, IsCall, IsRebuild, IsScript, token_number}
-use Rattle.script_text.specs.declared.place.ScriptPlace.{ScriptPlace}
-use Rattle.script_text.specs.declared.place.ScriptPlace.TheVariants as place
+use Rattle.script_text.specs.declared.script_place.ScriptPlace.{ScriptPlace}
+use Rattle.script_text.specs.declared.script_place.ScriptPlace.TheVariants as place
 
 -- the last item is the one at the end
 pub on_last-push : {A : Type 0} (f : A → A) (xs : List A) (x : A) → on_last f (xs ++ x ∷ []) ≡ xs ++ f x ∷ []

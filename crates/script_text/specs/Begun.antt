@@ -4,8 +4,8 @@ use Rattle.std.specs.List.{flat_map}
 use Rattle.store_map.specs.declared.script.Script.{Script}
 use Rattle.line_grammar.specs.Line.{Line, ClayLine, CodeLine, SizeLine, TriesLine, LeaveLine, ScheduleLine, StepLine, EndLine}
 use Rattle.script_text.specs.Spelling.{client_lines, repairer_lines, optional_line}
-use Rattle.script_text.specs.declared.place.ScriptPlace.{ScriptPlace}
-use Rattle.script_text.specs.declared.place.ScriptPlace.TheVariants as place
+use Rattle.script_text.specs.declared.script_place.ScriptPlace.{ScriptPlace}
+use Rattle.script_text.specs.declared.script_place.ScriptPlace.TheVariants as place
 
 -- the lines behind the blocks, up to a place
 abbrev pub lines_behind_blocks : ScriptPlace → Script → List Line

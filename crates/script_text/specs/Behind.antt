@@ -3,10 +3,10 @@ use Rattle.std.specs.Prelude.{ℕ, List, [], ◌∷◌, ◌++◌, Option, None, 
 use Rattle.store_map.specs.declared.script.Script.{Script}
 use Rattle.line_grammar.specs.Line.{Line, ClayLine, CodeLine, SizeLine, TriesLine, ClientLine, RepairerLine, LeaveLine, CallLine, RebuildLine, ScheduleLine, StepLine, EndLine}
 use Rattle.script_text.specs.Place.{next_place}
-use Rattle.script_text.specs.declared.place.LineKind.{LineKind}
-use Rattle.script_text.specs.declared.place.LineKind.TheVariants as kind
-use Rattle.script_text.specs.declared.place.ScriptPlace.{ScriptPlace}
-use Rattle.script_text.specs.declared.place.ScriptPlace.TheVariants as place
+use Rattle.script_text.specs.declared.script_place.LineKind.{LineKind}
+use Rattle.script_text.specs.declared.script_place.LineKind.TheVariants as kind
+use Rattle.script_text.specs.declared.script_place.ScriptPlace.{ScriptPlace}
+use Rattle.script_text.specs.declared.script_place.ScriptPlace.TheVariants as place
 
 -- a line without its values
 abbrev pub kind_of : Line → LineKind

@@ -12,8 +12,8 @@ use Rattle.line_grammar.specs.Forms.{HasForm}
 use Rattle.script_text.specs.Front.{Front, Begun, MayStand}
 use Rattle.line_grammar.specs.Line.{Line, CodeLine, StepLine, RebuildLine, line_words}
 use Rattle.line_grammar.specs.Lines.{spaced}
-use Rattle.line_grammar.specs.declared.fault.FaultKind.{FaultKind}
-use Rattle.line_grammar.specs.declared.fault.FaultKind.TheVariants.{Syntax, Geometry, Limit, NoSuchActor, NoSuchServer}
+use Rattle.line_grammar.specs.declared.line_fault.FaultKind.{FaultKind}
+use Rattle.line_grammar.specs.declared.line_fault.FaultKind.TheVariants.{Syntax, Geometry, Limit, NoSuchActor, NoSuchServer}
 
 -- the text, without its line feed, is the line's
 abbrev pub SpellsLine : List ℕ → Line → Type 0

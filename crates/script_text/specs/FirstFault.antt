@@ -9,9 +9,9 @@ use Rattle.line_grammar.specs.Line.{line_text}
 use Rattle.line_grammar.specs.Lines.{Lacks}
 use Rattle.script_text.specs.Spelling.{script_lines, spelling}
 use Rattle.line_grammar.specs.Values.{IsScript}
-use Rattle.line_grammar.specs.declared.fault.FaultKind.{FaultKind}
-use Rattle.line_grammar.specs.declared.fault.FaultKind.TheVariants.{Syntax, MissingEnd, OutOfMemory}
-use Rattle.script_text.specs.declared.fault.ScriptFault.{ScriptFault}
+use Rattle.line_grammar.specs.declared.line_fault.FaultKind.{FaultKind}
+use Rattle.line_grammar.specs.declared.line_fault.FaultKind.TheVariants.{Syntax, MissingEnd, OutOfMemory}
+use Rattle.script_text.specs.declared.script_fault.ScriptFault.{ScriptFault}
 
 -- the bytes are a script's spelling
 pub record Spelled (bytes : List ℕ) (script : Script) : Type 0 where

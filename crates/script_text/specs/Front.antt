@@ -6,9 +6,9 @@ use Rattle.script_text.specs.Behind.{place_behind, kind_of}
 use Rattle.line_grammar.specs.Forms.{IsForm, IsLineOfForm}
 use Rattle.line_grammar.specs.Line.{Line, ClayLine}
 use Rattle.script_text.specs.SoFar.{IsBegun}
-use Rattle.script_text.specs.declared.place.LineKind.TheVariants as kind
-use Rattle.script_text.specs.declared.place.ScriptPlace.{ScriptPlace}
-use Rattle.script_text.specs.declared.place.ScriptPlace.TheVariants as place
+use Rattle.script_text.specs.declared.script_place.LineKind.TheVariants as kind
+use Rattle.script_text.specs.declared.script_place.ScriptPlace.{ScriptPlace}
+use Rattle.script_text.specs.declared.script_place.ScriptPlace.TheVariants as place
 
 -- what stands before a line: nothing, the first line, or the lines of a script so far
 pub data Front : Type 0 where

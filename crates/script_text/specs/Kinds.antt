@@ -1,8 +1,8 @@
 -- What a line of a script is, by its first word.
 use Rattle.std.specs.Prelude.{ℕ, Bool, ◌||◌, List, codes, Option, None, Some, if◌then◌else◌}
 use Rattle.std.specs.Str.{bytes_eq}
-use Rattle.script_text.specs.declared.place.LineKind.{LineKind}
-use Rattle.script_text.specs.declared.place.LineKind.TheVariants as kind
+use Rattle.script_text.specs.declared.script_place.LineKind.{LineKind}
+use Rattle.script_text.specs.declared.script_place.LineKind.TheVariants as kind
 
 -- a client's call begins with this word
 abbrev pub is_call_word : List ℕ → Bool

@@ -5,7 +5,7 @@ use Rattle.store_map.specs.declared.script.Script.{Script}
 use Rattle.script_text.specs.FirstFault.{Spelled, IsFault, IsFrontFault}
 use Rattle.script_text.specs.Spelling.{spelling}
 use Rattle.line_grammar.specs.Values.{IsScript}
-use Rattle.line_grammar.specs.declared.fault.FaultKind.{FaultKind}
+use Rattle.line_grammar.specs.declared.line_fault.FaultKind.{FaultKind}
 
 -- bytes spell one script at most
 abbrev pub IsOneScript : Type 0

@@ -1,9 +1,9 @@
 -- Which lines may stand where.
 use Rattle.std.specs.Prelude.{ℕ, Option, None, Some}
-use Rattle.script_text.specs.declared.place.LineKind.{LineKind}
-use Rattle.script_text.specs.declared.place.LineKind.TheVariants as kind
-use Rattle.script_text.specs.declared.place.ScriptPlace.{ScriptPlace}
-use Rattle.script_text.specs.declared.place.ScriptPlace.TheVariants as place
+use Rattle.script_text.specs.declared.script_place.LineKind.{LineKind}
+use Rattle.script_text.specs.declared.script_place.LineKind.TheVariants as kind
+use Rattle.script_text.specs.declared.script_place.ScriptPlace.{ScriptPlace}
+use Rattle.script_text.specs.declared.script_place.ScriptPlace.TheVariants as place
 
 -- the place behind a line that may stand where a repairer's block may begin
 abbrev pub next_repairer : LineKind → Option ScriptPlace

@@ -5,8 +5,8 @@ use Rattle.store_map.specs.declared.call.Rebuild.{Rebuild}
 use Rattle.store_map.specs.declared.limits.TheConstants.{MAX_CALLS}
 use Rattle.store_map.specs.declared.script.ClientPart.{ClientPart}
 use Rattle.store_map.specs.declared.script.RepairPart.{RepairPart}
-use Rattle.line_grammar.specs.declared.fault.FaultKind.{FaultKind}
-use Rattle.line_grammar.specs.declared.fault.FaultKind.TheVariants.{Limit, OutOfMemory}
+use Rattle.line_grammar.specs.declared.line_fault.FaultKind.{FaultKind}
+use Rattle.line_grammar.specs.declared.line_fault.FaultKind.TheVariants.{Limit, OutOfMemory}
 
 -- the last block has one call more, with its step limit; or it has no room, or memory was wanting
 abbrev pub PushesCall :

@@ -8,10 +8,10 @@ use Rattle.script_text.specs.SoFar.{IsBegun}
 use Rattle.script_text.specs.Front.{Begun}
 use Rattle.script_text.specs.Fault.{SpellsLine, LineFault}
 use Rattle.line_grammar.specs.Line.{Line}
-use Rattle.line_grammar.specs.declared.fault.FaultKind.{FaultKind}
-use Rattle.line_grammar.specs.declared.fault.FaultKind.TheVariants.{OutOfMemory}
-use Rattle.script_text.specs.declared.place.LineKind.{LineKind}
-use Rattle.script_text.specs.declared.reader.Reader.{Reader}
+use Rattle.line_grammar.specs.declared.line_fault.FaultKind.{FaultKind}
+use Rattle.line_grammar.specs.declared.line_fault.FaultKind.TheVariants.{OutOfMemory}
+use Rattle.script_text.specs.declared.script_place.LineKind.{LineKind}
+use Rattle.script_text.specs.declared.script_reader.Reader.{Reader}
 
 -- the script so far
 abbrev pub script_of : Reader → Script

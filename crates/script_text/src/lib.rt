@@ -3,15 +3,15 @@
 //! same bytes. Neither reading nor writing looks at what the calls would do.
 #![tactic(auto)]
 
-mod fault;
-pub mod laws;
+pub mod laws_of_scripts;
 mod load;
-mod place;
-mod reader;
-mod script;
-mod write;
+mod script_fault;
+mod script_place;
+mod script_reader;
+mod script_writing;
+mod whole_script;
 
-pub use fault::ScriptFault;
 pub use line_grammar::{FaultKind, read_number};
-pub use script::{read_front, read_script};
-pub use write::write_script;
+pub use script_fault::ScriptFault;
+pub use script_writing::write_script;
+pub use whole_script::{read_front, read_script};

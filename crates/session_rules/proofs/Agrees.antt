@@ -15,7 +15,7 @@ use Rattle.store_core.specs.GatheringParts.{chunks_in_range}
 use Rattle.session_rules.proofs.AtPlaces.{answers_at, named_same}
 use Rattle.store_core.specs.Step.{Places}
 use Rattle.session_rules.specs.State.{Stripe, State as Session, stripe_at}
-use Rattle.session_rules.specs.declared.answer.Answer.{Answer}
+use Rattle.session_rules.specs.declared.session_answer.Answer.{Answer}
 use Rattle.session_rules.specs.Gathered.{Range, holds, lacking, asked_first, is_unavailable, unavailable, first_unavailable, is_beyond_repair}
 use Rattle.session_rules.specs.Seen.{version_of, IsSeenAs}
 use Rattle.session_rules.specs.Outcomes.{outcome_at}

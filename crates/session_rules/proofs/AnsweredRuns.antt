@@ -9,7 +9,7 @@ use Rattle.store_core.specs.Calls.{Calls}
 use Rattle.store_core.specs.Step.{Places}
 use Rattle.session_rules.specs.State.{Snapshot, State}
 use Rattle.session_rules.specs.declared.request.Request.{Request}
-use Rattle.session_rules.specs.declared.answer.Answer.{Answer}
+use Rattle.session_rules.specs.declared.session_answer.Answer.{Answer}
 use Rattle.session_rules.specs.Heals.{to_heal, heal_all, numbers_last}
 use Rattle.session_rules.specs.Serve.{serve}
 use Rattle.session_rules.specs.Snapshots.{snap, snap_read}

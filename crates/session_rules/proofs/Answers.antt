@@ -7,8 +7,8 @@ use Rattle.store_map.specs.declared.call.Call.{Call}
 use Rattle.store_map.specs.declared.call.Call.TheVariants as call
 use Rattle.store_map.specs.declared.reply.Reply.TheVariants as reply
 use Rattle.session_rules.specs.State.{Stripe, State, numbers_of}
-use Rattle.session_rules.specs.declared.answer.LostChunk.{LostChunk}
-use Rattle.session_rules.specs.declared.answer.Answer.{Answer}
+use Rattle.session_rules.specs.declared.session_answer.LostChunk.{LostChunk}
+use Rattle.session_rules.specs.declared.session_answer.Answer.{Answer}
 use Rattle.session_rules.specs.Gathered.{Range, is_unavailable, unavailable, holds, is_beyond_repair, named}
 use Rattle.session_rules.specs.Calls.{name_in, gathered_by, is_refusal, unless_unavailable, serve_by, serve_call}
 use Rattle.session_rules.specs.Placing.{after_call}

@@ -24,7 +24,7 @@ use Rattle.run_laws.proofs.SoundLists.{all_at, at_all, is_in}
 use Rattle.run_laws.specs.State.{Sequel}
 use Rattle.run_laws.specs.States.{parts_state, open_parts, open_state}
 use Rattle.session_rules.specs.State.{Chunk, Stripe, State as Session, stripe_at}
-use Rattle.session_rules.specs.declared.answer.Missing.{Missing}
+use Rattle.session_rules.specs.declared.session_answer.Missing.{Missing}
 use Rattle.session_rules.specs.Gathered.{lacking, asked_first, named}
 use Rattle.session_rules.specs.Seen.{version_of, live_numbers, all_numbers, snapshot_numbers, StandsFor, IsSeenAs}
 use Rattle.session_rules.specs.Outcomes.{lost_as}

@@ -21,7 +21,7 @@ use Rattle.store_core.specs.Step.{Shortage, Places}
 use Rattle.run_laws.specs.State.{first_state}
 use Rattle.run_laws.specs.StateActs.{act_of_state}
 use Rattle.session_rules.specs.State.{Stripe, State as Session, numbers_of}
-use Rattle.session_rules.specs.declared.answer.Answer.{Answer}
+use Rattle.session_rules.specs.declared.session_answer.Answer.{Answer}
 use Rattle.session_rules.specs.Gathered.{Range, is_unavailable, unavailable, holds, is_beyond_repair, named}
 use Rattle.session_rules.specs.Calls.{name_in, gathered_by, is_refusal, unless_unavailable, serve_by, serve_call}
 use Rattle.session_rules.specs.Placing.{after_call}

@@ -11,7 +11,7 @@ use Rattle.store_core.specs.Step.{Places}
 use Rattle.run_laws.specs.State.{first_state}
 use Rattle.run_laws.specs.StateActs.{act_of_state}
 use Rattle.session_rules.specs.State.{State}
-use Rattle.session_rules.specs.declared.answer.Answer.{Answer}
+use Rattle.session_rules.specs.declared.session_answer.Answer.{Answer}
 use Rattle.session_rules.specs.declared.request.Request.{Request}
 use Rattle.session_rules.specs.Calls.{serve_call}
 use Rattle.session_rules.specs.Alone.{AtWork, steps, EndsAs}

@@ -13,7 +13,7 @@ use Rattle.store_core.specs.Step.{Places}
 use Rattle.store_core.specs.Sweep.{Sweeper, after_taken}
 use Rattle.run_laws.specs.State.{first_state}
 use Rattle.run_laws.specs.StateActs.{act_of_state}
-use Rattle.session_rules.specs.declared.answer.LostChunk.{LostChunk}
+use Rattle.session_rules.specs.declared.session_answer.LostChunk.{LostChunk}
 use Rattle.session_rules.specs.AloneHeals.{rebuild_of, AreRebuilt}
 use Rattle.session_rules.specs.Alone.{AtWork, EndsAs, Sweeping, sweep, sweeps}
 use Rattle.session_rules.proofs.HealMaps.{one_end, same_end}

@@ -14,8 +14,8 @@ use Rattle.store_core.specs.Directory.{Object}
 use Rattle.store_core.specs.Lookups.{find_object}
 use Rattle.store_core.specs.Step.{Places}
 use Rattle.session_rules.specs.State.{Chunk, Stripe, State as Session, numbers_of, chunk_at}
-use Rattle.session_rules.specs.declared.answer.LostChunk.{LostChunk}
-use Rattle.session_rules.specs.declared.answer.Answer.{Answer}
+use Rattle.session_rules.specs.declared.session_answer.LostChunk.{LostChunk}
+use Rattle.session_rules.specs.declared.session_answer.Answer.{Answer}
 use Rattle.session_rules.specs.Gathered.{holds, lacking, is_beyond_repair, named}
 use Rattle.session_rules.specs.Rebuilds.{place_anew, rebuild, rebuild_one}
 use Rattle.session_rules.specs.Heals.{lost_chunks, number_of, to_heal, heal_one, heal_all}

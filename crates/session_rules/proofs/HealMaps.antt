@@ -12,8 +12,8 @@ use Rattle.store_core.specs.Step.{Places}
 use Rattle.run_laws.specs.State.{first_state}
 use Rattle.run_laws.specs.StateActs.{act_of_state}
 use Rattle.session_rules.specs.State.{State as Session, numbers_of}
-use Rattle.session_rules.specs.declared.answer.LostChunk.{LostChunk}
-use Rattle.session_rules.specs.declared.answer.Answer.{Answer}
+use Rattle.session_rules.specs.declared.session_answer.LostChunk.{LostChunk}
+use Rattle.session_rules.specs.declared.session_answer.Answer.{Answer}
 use Rattle.session_rules.specs.Rebuilds.{place_anew, rebuild}
 use Rattle.session_rules.specs.Heals.{number_of, to_heal, heal_one, heal_all}
 use Rattle.session_rules.specs.Alone.{AtWork, step, step_by, steps, EndsAs}

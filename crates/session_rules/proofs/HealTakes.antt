@@ -11,8 +11,8 @@ use Rattle.store_core.specs.Conditions.{MayBegin}
 use Rattle.store_core.specs.Step.{Places}
 use Rattle.run_laws.specs.State.{first_state}
 use Rattle.session_rules.specs.State.{State as Session, numbers_of, stripe_at}
-use Rattle.session_rules.specs.declared.answer.LostChunk.{LostChunk}
-use Rattle.session_rules.specs.declared.answer.Answer.{Answer}
+use Rattle.session_rules.specs.declared.session_answer.LostChunk.{LostChunk}
+use Rattle.session_rules.specs.declared.session_answer.Answer.{Answer}
 use Rattle.session_rules.specs.Rebuilds.{place_anew, rebuild}
 use Rattle.session_rules.specs.Heals.{number_of, to_heal, heal_one, takes_of}
 use Rattle.session_rules.specs.Seen.{IsSeenAs}

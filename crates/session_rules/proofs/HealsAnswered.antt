@@ -14,8 +14,8 @@ use Rattle.store_core.specs.Step.{Shortage, Places}
 use Rattle.run_laws.specs.State.{first_state}
 use Rattle.run_laws.specs.StateActs.{act_of_state}
 use Rattle.session_rules.specs.State.{State}
-use Rattle.session_rules.specs.declared.answer.LostChunk.{LostChunk}
-use Rattle.session_rules.specs.declared.answer.Answer.{Answer}
+use Rattle.session_rules.specs.declared.session_answer.LostChunk.{LostChunk}
+use Rattle.session_rules.specs.declared.session_answer.Answer.{Answer}
 use Rattle.session_rules.specs.declared.request.Request.{Request}
 use Rattle.session_rules.specs.Heals.{to_heal}
 use Rattle.session_rules.specs.Serve.{serve}

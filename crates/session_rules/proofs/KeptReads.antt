@@ -41,8 +41,8 @@ use Rattle.run_laws.specs.Contents.{stripes_in}
 use Rattle.run_laws.specs.ReadLaws.{part_bytes, bytes_read}
 use Rattle.run_laws.proofs.Ranges.{part_at, parts_are}
 use Rattle.session_rules.specs.State.{Chunk, Stripe, Numbering, Snapshot, State, numbers_of, stripe_at, chunk_at}
-use Rattle.session_rules.specs.declared.answer.Missing.{Missing}
-use Rattle.session_rules.specs.declared.answer.Answer.{Answer}
+use Rattle.session_rules.specs.declared.session_answer.Missing.{Missing}
+use Rattle.session_rules.specs.declared.session_answer.Answer.{Answer}
 use Rattle.session_rules.specs.Gathered.{Range, ranges_between, holds, lacking, asked_first, is_beyond_repair, named, is_unavailable, unavailable, first_unavailable}
 use Rattle.session_rules.specs.Snapshots.{reply_unless}
 use Rattle.session_rules.specs.Alone.{AtWork}

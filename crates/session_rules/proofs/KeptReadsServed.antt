@@ -9,7 +9,7 @@ use Rattle.store_core.specs.Sound.{IsSound}
 use Rattle.store_core.specs.Step.{Places}
 use Rattle.run_laws.specs.State.{State as CallAt}
 use Rattle.session_rules.specs.State.{Snapshot, State}
-use Rattle.session_rules.specs.declared.answer.Answer.{Answer}
+use Rattle.session_rules.specs.declared.session_answer.Answer.{Answer}
 use Rattle.session_rules.specs.declared.request.Request.{Request}
 use Rattle.session_rules.specs.Snapshots.{snap_read}
 use Rattle.session_rules.specs.Alone.{AtWork}

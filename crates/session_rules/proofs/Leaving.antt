@@ -11,7 +11,7 @@ use Rattle.store_core.specs.Step.{Shortage, Places, at_places}
 use Rattle.store_core.specs.Sweep.{next_sweep}
 use Rattle.run_laws.specs.State.{CallState, first_state}
 use Rattle.run_laws.specs.StateActs.{act_of_state}
-use Rattle.session_rules.specs.declared.answer.LostChunk.{LostChunk}
+use Rattle.session_rules.specs.declared.session_answer.LostChunk.{LostChunk}
 use Rattle.session_rules.specs.Alone.{AtWork, EndsAs, Sweeping, sweep, sweeps}
 use Rattle.session_rules.specs.AloneHeals.{rebuild_of, AreRebuilt}
 use Rattle.session_rules.specs.Wants.{after_coding, wanting_by, wanting_step, wanting_steps}

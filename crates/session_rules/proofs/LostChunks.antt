@@ -7,7 +7,7 @@ use Rattle.clay_grid.specs.Shape.{Shape, chunk_count}
 use Rattle.store_map.specs.Laws.{names_of}
 use Rattle.store_map.specs.PlainMap.{bytes_of}
 use Rattle.session_rules.specs.State.{State as Session}
-use Rattle.session_rules.specs.declared.answer.LostChunk.{LostChunk}
+use Rattle.session_rules.specs.declared.session_answer.LostChunk.{LostChunk}
 use Rattle.session_rules.specs.Gathered.{holds, lacking}
 use Rattle.session_rules.specs.Heals.{servers, lost_chunks}
 use Rattle.session_rules.proofs.Pairs.{Pairs, every_weaker, every_both, every_map, every_unmap, every_filter, every_kept, every_flat, pairs_weaker, pairs_map, pairs_filter, pairs_flat, across_by, row_less, row_apart, numbered_in, numbered_apart, names_apart, same_bytes}

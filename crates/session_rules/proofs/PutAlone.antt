@@ -36,7 +36,7 @@ use Rattle.run_laws.specs.CallLaws.{next_call}
 use Rattle.run_laws.specs.LookAfter.{put_after_look}
 use Rattle.run_laws.specs.WriteAfter.{drawing_after}
 use Rattle.session_rules.specs.State.{State as Session}
-use Rattle.session_rules.specs.declared.answer.Answer.{Answer}
+use Rattle.session_rules.specs.declared.session_answer.Answer.{Answer}
 use Rattle.session_rules.specs.Calls.{serve_call, serve_by, is_refusal}
 use Rattle.session_rules.specs.Alone.{AtWork, EndsAs}
 use Rattle.session_rules.specs.Seen.{IsSeenAs}

@@ -31,7 +31,7 @@ use Rattle.run_laws.specs.GatherAfter.{ending_after}
 use Rattle.run_laws.specs.CallAfter.{pairs_with}
 use Rattle.run_laws.specs.LookAfter.{read_after_look}
 use Rattle.session_rules.specs.State.{Stripe, State as Session}
-use Rattle.session_rules.specs.declared.answer.Answer.{Answer}
+use Rattle.session_rules.specs.declared.session_answer.Answer.{Answer}
 use Rattle.session_rules.specs.Gathered.{first_unavailable}
 use Rattle.session_rules.specs.Alone.{AtWork, step, steps}
 use Rattle.session_rules.specs.Seen.{version_of, IsSeenAs}

@@ -27,7 +27,7 @@ use Rattle.run_laws.proofs.SoundLists.{is_in}
 use Rattle.run_laws.proofs.SoundStripes.{pins_within}
 use Rattle.run_laws.proofs.Passes.{found_has}
 use Rattle.session_rules.specs.State.{State as Session}
-use Rattle.session_rules.specs.declared.answer.Answer.{Answer}
+use Rattle.session_rules.specs.declared.session_answer.Answer.{Answer}
 use Rattle.session_rules.specs.Gathered.{first_unavailable}
 use Rattle.session_rules.specs.Calls.{serve_call, serve_by, unless_unavailable, gathered_by, is_refusal}
 use Rattle.session_rules.specs.Placing.{after_call}

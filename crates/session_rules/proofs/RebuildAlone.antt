@@ -35,7 +35,7 @@ use Rattle.run_laws.specs.GatherAfter.{ending_after, confirming_after, installin
 use Rattle.run_laws.specs.CallAfter.{pairs_with}
 use Rattle.run_laws.specs.LookAfter.{rebuild_after_look}
 use Rattle.session_rules.specs.State.{Stripe, State as Session, numbers_of, stripe_at}
-use Rattle.session_rules.specs.declared.answer.Answer.{Answer}
+use Rattle.session_rules.specs.declared.session_answer.Answer.{Answer}
 use Rattle.session_rules.specs.Gathered.{holds, is_beyond_repair, named}
 use Rattle.session_rules.specs.Rebuilds.{place_anew, rebuild, rebuild_one}
 use Rattle.session_rules.specs.Alone.{AtWork, step, steps}

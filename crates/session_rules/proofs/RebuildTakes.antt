@@ -28,7 +28,7 @@ use Rattle.run_laws.specs.StateActs.{act_of_state}
 use Rattle.run_laws.specs.CallAfter.{pairs_with}
 use Rattle.run_laws.specs.LookAfter.{rebuild_after_look}
 use Rattle.session_rules.specs.State.{Stripe, State as Session, numbers_of, stripe_at}
-use Rattle.session_rules.specs.declared.answer.Answer.{Answer}
+use Rattle.session_rules.specs.declared.session_answer.Answer.{Answer}
 use Rattle.session_rules.specs.Gathered.{holds, lacking, asked_first, is_beyond_repair, named}
 use Rattle.session_rules.specs.Rebuilds.{place_anew, rebuild, rebuild_one}
 use Rattle.session_rules.specs.Heals.{takes_of}

@@ -22,7 +22,7 @@ use Rattle.run_laws.specs.States.{open_call}
 use Rattle.run_laws.specs.CallAfter.{pairs_with}
 use Rattle.run_laws.specs.LookAfter.{put_after_look, write_after_look}
 use Rattle.session_rules.specs.State.{State as Session}
-use Rattle.session_rules.specs.declared.answer.Answer.{Answer}
+use Rattle.session_rules.specs.declared.session_answer.Answer.{Answer}
 use Rattle.session_rules.specs.Calls.{serve_call, serve_by, is_refusal}
 use Rattle.run_laws.specs.State.{first_state}
 use Rattle.store_core.specs.Act.{Act, DirectoryStep, Outcome}

@@ -14,7 +14,7 @@ use Rattle.store_core.specs.Lookups.{same_actor}
 use Rattle.store_core.specs.Server.{Server}
 use Rattle.store_core.specs.Step.{Places, at_places}
 use Rattle.session_rules.specs.State.{State, numbers_of}
-use Rattle.session_rules.specs.declared.answer.Answer.{Answer}
+use Rattle.session_rules.specs.declared.session_answer.Answer.{Answer}
 use Rattle.session_rules.specs.declared.request.Request.{Request}
 use Rattle.session_rules.specs.Rebuilds.{rebuild}
 use Rattle.session_rules.specs.Heals.{to_heal, heal_all, numbers_last}

@@ -11,8 +11,8 @@ use Rattle.store_core.specs.Lists.{change_at, is_among}
 use Rattle.store_core.specs.Server.{Server}
 use Rattle.store_core.specs.Step.{Places}
 use Rattle.session_rules.specs.State.{Chunk, Stripe, State}
-use Rattle.session_rules.specs.declared.answer.LostChunk.{LostChunk}
-use Rattle.session_rules.specs.declared.answer.Answer.{Answer}
+use Rattle.session_rules.specs.declared.session_answer.LostChunk.{LostChunk}
+use Rattle.session_rules.specs.declared.session_answer.Answer.{Answer}
 use Rattle.session_rules.specs.Gathered.{holds, lacking, is_beyond_repair}
 use Rattle.session_rules.specs.Rebuilds.{place_anew}
 use Rattle.session_rules.specs.Heals.{servers, lost_chunks, number_of, to_heal, heal_one, heal_all, heal}

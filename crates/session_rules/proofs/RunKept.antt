@@ -16,7 +16,7 @@ use Rattle.store_core.specs.Step.{Shortage, Places, at_places}
 use Rattle.run_laws.proofs.BesideSteps.{others_agree}
 use Rattle.run_laws.specs.State.{first_state}
 use Rattle.run_laws.specs.StateActs.{act_of_state}
-use Rattle.session_rules.specs.declared.answer.LostChunk.{LostChunk}
+use Rattle.session_rules.specs.declared.session_answer.LostChunk.{LostChunk}
 use Rattle.session_rules.specs.Alone.{AtWork, EndsAs, Sweeping, steps, sweeps}
 use Rattle.session_rules.specs.AloneHeals.{rebuild_of, AreRebuilt}
 use Rattle.session_rules.specs.Wants.{wanting_steps}

@@ -8,7 +8,7 @@ use Rattle.store_core.specs.Lists.{is_among}
 use Rattle.store_core.specs.Server.{Server, new_server}
 use Rattle.store_core.specs.Step.{Places}
 use Rattle.session_rules.specs.State.{Chunk, Stripe, State as Session}
-use Rattle.session_rules.specs.declared.answer.LostChunk.{LostChunk}
+use Rattle.session_rules.specs.declared.session_answer.LostChunk.{LostChunk}
 use Rattle.session_rules.specs.Gathered.{holds, lacking}
 use Rattle.session_rules.specs.Heals.{servers}
 use Rattle.session_rules.specs.Seen.{version_of, all_numbers, snapshot_numbers, live_numbers, versions_under, stood_under, StandsFor, IsSeenAs}

@@ -32,7 +32,7 @@ use Rattle.run_laws.specs.StateActs.{act_of_state}
 use Rattle.run_laws.specs.CallAfter.{pairs_with}
 use Rattle.run_laws.specs.LookAfter.{single_after_look}
 use Rattle.session_rules.specs.State.{State as Session}
-use Rattle.session_rules.specs.declared.answer.Answer.{Answer}
+use Rattle.session_rules.specs.declared.session_answer.Answer.{Answer}
 use Rattle.session_rules.specs.Calls.{serve_call, serve_by, is_refusal}
 use Rattle.session_rules.specs.Alone.{AtWork, step, EndsAs}
 use Rattle.session_rules.specs.Seen.{version_of, live_numbers, all_numbers, snapshot_numbers, StandsFor, IsSeenAs}

@@ -6,7 +6,7 @@ use Rattle.store_map.specs.declared.reply.Reply.TheVariants as reply
 use Rattle.store_core.specs.Lists.{is_among}
 use Rattle.store_core.specs.Step.{Places}
 use Rattle.session_rules.specs.State.{Snapshot, State as Session}
-use Rattle.session_rules.specs.declared.answer.Answer.{Answer}
+use Rattle.session_rules.specs.declared.session_answer.Answer.{Answer}
 use Rattle.session_rules.specs.Snapshots.{most_objects, snap, snap_drop}
 use Rattle.session_rules.specs.Seen.{all_numbers, snapshot_numbers, live_numbers, IsSeenAs}
 use Rattle.session_rules.specs.Snaps.{SnapsAreSeen}

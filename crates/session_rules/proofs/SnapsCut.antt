@@ -17,7 +17,7 @@ use Rattle.store_core.specs.Step.{Places}
 use Rattle.run_laws.specs.MapAfter.{map_by}
 use Rattle.store_core.specs.Lists.{is_among}
 use Rattle.session_rules.specs.State.{Numbering, Snapshot, State}
-use Rattle.session_rules.specs.declared.answer.Answer.{Answer}
+use Rattle.session_rules.specs.declared.session_answer.Answer.{Answer}
 use Rattle.session_rules.specs.declared.request.Request.{Request}
 use Rattle.session_rules.specs.Snapshots.{most_objects, snap}
 use Rattle.session_rules.specs.Seen.{version_of, snapshot_numbers, live_numbers, IsOfSnapshot, IsAtRest, IsQuiet}

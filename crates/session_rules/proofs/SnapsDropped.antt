@@ -15,7 +15,7 @@ use Rattle.store_core.specs.Server.{Server}
 use Rattle.store_core.specs.Step.{Places}
 use Rattle.run_laws.specs.MapAfter.{map_by}
 use Rattle.session_rules.specs.State.{Snapshot, State}
-use Rattle.session_rules.specs.declared.answer.Answer.{Answer}
+use Rattle.session_rules.specs.declared.session_answer.Answer.{Answer}
 use Rattle.session_rules.specs.declared.request.Request.{Request}
 use Rattle.session_rules.specs.Snapshots.{snap_drop}
 use Rattle.session_rules.specs.Seen.{IsSeenAs, IsOfSnapshot, IsAtRest}

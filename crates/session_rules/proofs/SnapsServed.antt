@@ -22,7 +22,7 @@ use Rattle.store_core.specs.Step.{Places}
 use Rattle.run_laws.specs.MapAfter.{map_by}
 use Rattle.run_laws.specs.Contents.{stripes_in, stored_in}
 use Rattle.session_rules.specs.State.{Numbering, Snapshot, State}
-use Rattle.session_rules.specs.declared.answer.Answer.{Answer}
+use Rattle.session_rules.specs.declared.session_answer.Answer.{Answer}
 use Rattle.session_rules.specs.declared.request.Request.{Request}
 use Rattle.session_rules.specs.Snapshots.{most_objects, snap}
 use Rattle.session_rules.specs.Seen.{version_of, versions_under, stood_under, all_numbers, snapshot_numbers, live_numbers, IsSeenAs, IsOfSnapshot, IsAtRest, IsQuiet}

@@ -12,7 +12,7 @@ use Rattle.store_core.specs.Note.{note_of}
 use Rattle.store_core.specs.Conditions.{MayBegin, IsOfClient}
 use Rattle.store_core.specs.Step.{Places}
 use Rattle.session_rules.specs.State.{State}
-use Rattle.session_rules.specs.declared.answer.Answer.{Answer}
+use Rattle.session_rules.specs.declared.session_answer.Answer.{Answer}
 use Rattle.session_rules.specs.Calls.{is_refusal, serve_by, serve_call}
 use Rattle.session_rules.specs.Seen.{IsSeenAs, IsQuiet}
 use Rattle.session_rules.specs.Sweeps.{KeepsPinned}

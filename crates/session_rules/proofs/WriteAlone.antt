@@ -48,7 +48,7 @@ use Rattle.run_laws.specs.CallLaws.{next_call}
 use Rattle.run_laws.specs.LookAfter.{write_after_look}
 use Rattle.run_laws.specs.WriteAfter.{drawing_after}
 use Rattle.session_rules.specs.State.{Stripe, State as Session, numbers_of}
-use Rattle.session_rules.specs.declared.answer.Answer.{Answer}
+use Rattle.session_rules.specs.declared.session_answer.Answer.{Answer}
 use Rattle.session_rules.specs.Gathered.{Range, first_unavailable}
 use Rattle.session_rules.specs.Placing.{new_stripe}
 use Rattle.session_rules.specs.Calls.{serve_call, serve_by, unless_unavailable, gathered_by, is_refusal}

@@ -9,7 +9,7 @@ use Rattle.store_core.specs.NextAct.{rebuild_job}
 use Rattle.store_core.specs.Conditions.{MayBegin}
 use Rattle.store_core.specs.Step.{Places}
 use Rattle.session_rules.specs.State.{State}
-use Rattle.session_rules.specs.declared.answer.LostChunk.{LostChunk}
+use Rattle.session_rules.specs.declared.session_answer.LostChunk.{LostChunk}
 use Rattle.session_rules.specs.Heals.{to_heal, heal_all, numbers_last, heal}
 use Rattle.session_rules.specs.Alone.{EndsAs}
 use Rattle.session_rules.specs.Seen.{IsSeenAs, IsQuiet}

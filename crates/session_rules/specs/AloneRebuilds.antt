@@ -10,7 +10,7 @@ use Rattle.store_core.specs.NextAct.{rebuild_job}
 use Rattle.store_core.specs.Conditions.{MayBegin, IsOfRepairer}
 use Rattle.store_core.specs.Step.{Places}
 use Rattle.session_rules.specs.State.{State, numbers_of}
-use Rattle.session_rules.specs.declared.answer.Answer.{Answer}
+use Rattle.session_rules.specs.declared.session_answer.Answer.{Answer}
 use Rattle.session_rules.specs.Rebuilds.{rebuild}
 use Rattle.session_rules.specs.Alone.{EndsAs}
 use Rattle.session_rules.specs.Seen.{IsSeenAs, IsQuiet}

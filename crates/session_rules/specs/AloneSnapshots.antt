@@ -18,7 +18,7 @@ use Rattle.store_core.specs.Step.{Places, at_places}
 use Rattle.run_laws.specs.State.{State as CallAt}
 use Rattle.run_laws.specs.ReadLaws.{bytes_read}
 use Rattle.session_rules.specs.State.{Numbering, Snapshot, numbers_of, stripe_at}
-use Rattle.session_rules.specs.declared.answer.Answer.{Answer}
+use Rattle.session_rules.specs.declared.session_answer.Answer.{Answer}
 use Rattle.session_rules.specs.Gathered.{ranges_between}
 use Rattle.session_rules.specs.Outcomes.{lost_as}
 use Rattle.session_rules.specs.Reading.{begun, reading_steps}

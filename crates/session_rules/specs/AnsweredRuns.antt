@@ -11,7 +11,7 @@ use Rattle.store_core.specs.Calls.{Calls}
 use Rattle.store_core.specs.Step.{Shortage, Places}
 use Rattle.session_rules.specs.State.{Snapshot, State}
 use Rattle.session_rules.specs.declared.request.Request.{Request}
-use Rattle.session_rules.specs.declared.answer.Answer.{Answer}
+use Rattle.session_rules.specs.declared.session_answer.Answer.{Answer}
 use Rattle.session_rules.specs.Serve.{serve}
 use Rattle.session_rules.specs.Snapshots.{snap}
 use Rattle.session_rules.specs.Shortages.{IsServed}

@@ -15,8 +15,8 @@ use Rattle.run_laws.specs.State.{State as CallAt, CallState, first_state}
 use Rattle.run_laws.specs.StateActs.{act_of_state}
 use Rattle.session_rules.specs.State.{Snapshot, State}
 use Rattle.session_rules.specs.declared.request.Request.{Request}
-use Rattle.session_rules.specs.declared.answer.LostChunk.{LostChunk}
-use Rattle.session_rules.specs.declared.answer.Answer.{Answer}
+use Rattle.session_rules.specs.declared.session_answer.LostChunk.{LostChunk}
+use Rattle.session_rules.specs.declared.session_answer.Answer.{Answer}
 use Rattle.session_rules.specs.Heals.{to_heal, numbers_last}
 use Rattle.session_rules.specs.Serve.{serve}
 use Rattle.session_rules.specs.Shortages.{IsServed}

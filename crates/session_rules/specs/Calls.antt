@@ -9,7 +9,7 @@ use Rattle.store_map.specs.declared.reply.Reply.{Reply}
 use Rattle.store_map.specs.declared.reply.Reply.TheVariants as reply
 use Rattle.store_core.specs.Look.{stripes_between, keeps_old}
 use Rattle.session_rules.specs.State.{State, numbers_of}
-use Rattle.session_rules.specs.declared.answer.Answer.{Answer}
+use Rattle.session_rules.specs.declared.session_answer.Answer.{Answer}
 use Rattle.session_rules.specs.Gathered.{Range, ranges_between, first_unavailable}
 use Rattle.session_rules.specs.Placing.{after_call}
 

@@ -6,8 +6,8 @@ use Rattle.store_core.specs.Lists.{is_among}
 use Rattle.store_core.specs.GatheringParts.{chunks_in_range}
 use Rattle.store_core.specs.Look.{stripes_between}
 use Rattle.session_rules.specs.State.{Stripe, State, stripe_at, chunk_at}
-use Rattle.session_rules.specs.declared.answer.Missing.{Missing}
-use Rattle.session_rules.specs.declared.answer.Answer.{Answer}
+use Rattle.session_rules.specs.declared.session_answer.Missing.{Missing}
+use Rattle.session_rules.specs.declared.session_answer.Answer.{Answer}
 
 -- the stripe at a place of an object, and which of its bytes are gathered, from start up to end
 pub record Range : Type 0 where

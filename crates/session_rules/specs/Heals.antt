@@ -4,8 +4,8 @@ use Rattle.std.specs.List.{range_with_len, enumerate_from}
 use Rattle.clay_grid.specs.Shape.{Shape, chunk_count, row_count, column_count, layer_count}
 use Rattle.store_core.specs.Lists.{is_among}
 use Rattle.session_rules.specs.State.{Stripe, State, numbers_of}
-use Rattle.session_rules.specs.declared.answer.LostChunk.{LostChunk}
-use Rattle.session_rules.specs.declared.answer.Answer.{Answer}
+use Rattle.session_rules.specs.declared.session_answer.LostChunk.{LostChunk}
+use Rattle.session_rules.specs.declared.session_answer.Answer.{Answer}
 use Rattle.session_rules.specs.Gathered.{holds, lacking, is_beyond_repair}
 use Rattle.session_rules.specs.Rebuilds.{place_anew}
 

@@ -4,7 +4,7 @@ use Rattle.clay_grid.specs.Shape.{Shape}
 use Rattle.store_map.specs.declared.reply.Reply.TheVariants as reply
 use Rattle.store_core.specs.Lists.{change_at}
 use Rattle.session_rules.specs.State.{Chunk, Stripe, State}
-use Rattle.session_rules.specs.declared.answer.Answer.{Answer}
+use Rattle.session_rules.specs.declared.session_answer.Answer.{Answer}
 use Rattle.session_rules.specs.Gathered.{holds, is_beyond_repair, named}
 
 -- a chunk is lost; where it was placed stays known

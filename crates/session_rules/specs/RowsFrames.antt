@@ -1,7 +1,7 @@
 -- Rows: frames that are no requests, and how sessions end.
 use Rattle.std.specs.Prelude.{◌≡◌, ℕ, ◌+◌, ◌/◌, ◌%◌, List, [], ◌∷◌, ◌++◌, codes, map, replicate}
 use Rattle.std.specs.List.{range_with_len}
-use Rattle.session_rules.specs.declared.ending.Ending.{Ending}
+use Rattle.session_rules.specs.declared.session_ending.Ending.{Ending}
 use Rattle.session_rules.specs.Session.{session_of}
 use Rattle.session_rules.specs.Rows.{Row, row, bytes_in, small_code}
 

@@ -6,7 +6,7 @@ use Rattle.store_core.specs.Calls.{Calls}
 use Rattle.store_core.specs.Step.{Places}
 use Rattle.session_rules.specs.State.{State}
 use Rattle.session_rules.specs.declared.request.Request.{Request}
-use Rattle.session_rules.specs.declared.answer.Answer.{Answer}
+use Rattle.session_rules.specs.declared.session_answer.Answer.{Answer}
 use Rattle.session_rules.specs.Serve.{serve}
 use Rattle.session_rules.specs.Between.{Seats, seats_after, IsBetween}
 use Rattle.session_rules.specs.Serving.{IsServedBy, MayBeAsked}

@@ -6,7 +6,7 @@ use Rattle.store_core.specs.Lists.{is_among}
 use Rattle.store_core.specs.Server.{new_server}
 use Rattle.store_core.specs.Step.{Places}
 use Rattle.session_rules.specs.State.{State}
-use Rattle.session_rules.specs.declared.answer.LostChunk.{LostChunk}
+use Rattle.session_rules.specs.declared.session_answer.LostChunk.{LostChunk}
 use Rattle.session_rules.specs.Heals.{lost_chunks}
 use Rattle.session_rules.specs.Seen.{versions_under, IsSeenAs}
 

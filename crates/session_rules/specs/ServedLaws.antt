@@ -12,7 +12,7 @@ use Rattle.store_core.specs.Conditions.{MayBegin, IsOfClient}
 use Rattle.store_core.specs.Server.{Server}
 use Rattle.store_core.specs.Step.{Places, at_places}
 use Rattle.session_rules.specs.State.{State}
-use Rattle.session_rules.specs.declared.answer.Answer.{Answer}
+use Rattle.session_rules.specs.declared.session_answer.Answer.{Answer}
 use Rattle.session_rules.specs.Calls.{serve_call}
 use Rattle.session_rules.specs.Rebuilds.{lose}
 use Rattle.session_rules.specs.Alone.{EndsAs}

@@ -24,7 +24,7 @@ use Rattle.store_core.specs.Sweep.{Sweeper}
 use Rattle.run_laws.specs.ReadLaws.{bytes_read}
 use Rattle.session_rules.specs.State.{Snapshot, State}
 use Rattle.session_rules.specs.declared.request.Request.{Request}
-use Rattle.session_rules.specs.declared.answer.Answer.{Answer}
+use Rattle.session_rules.specs.declared.session_answer.Answer.{Answer}
 use Rattle.session_rules.specs.Heals.{to_heal}
 use Rattle.session_rules.specs.Serve.{serve}
 use Rattle.session_rules.specs.Snapshots.{snap}

@@ -3,12 +3,12 @@ use Rattle.std.specs.Prelude.{◌≡◌, ℕ, List, [], ◌∷◌, flat_map, Opt
 use Rattle.clay_grid.specs.Shape.{Shape, chunk_count}
 use Rattle.session_rules.specs.State.{State, first_state}
 use Rattle.session_rules.specs.declared.request.Request.{Request}
-use Rattle.session_rules.specs.declared.answer.Answer.{Answer}
+use Rattle.session_rules.specs.declared.session_answer.Answer.{Answer}
 use Rattle.session_rules.specs.Serve.{serve}
 use Rattle.session_rules.specs.Shortages.{IsServed}
 use Rattle.session_rules.specs.Requests.{request_of}
 use Rattle.session_rules.specs.Replies.{answer_bytes}
-use Rattle.session_rules.specs.declared.ending.Ending.{Ending}
+use Rattle.session_rules.specs.declared.session_ending.Ending.{Ending}
 use Rattle.session_rules.specs.Input.{framed, input_of}
 
 -- a frame that is no request leaves the state

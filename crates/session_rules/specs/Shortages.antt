@@ -3,7 +3,7 @@ use Rattle.std.specs.Prelude.{◌≡◌, ◌⊎◌, ℕ, ◌+◌, ◌≤◌, ◌
 use Rattle.clay_grid.specs.Shape.{Shape}
 use Rattle.session_rules.specs.State.{State}
 use Rattle.session_rules.specs.declared.request.Request.{Request}
-use Rattle.session_rules.specs.declared.answer.Answer.{Answer}
+use Rattle.session_rules.specs.declared.session_answer.Answer.{Answer}
 use Rattle.session_rules.specs.Heals.{to_heal, heal_all, numbers_last}
 use Rattle.session_rules.specs.Serve.{serve}
 

@@ -5,7 +5,7 @@ use Rattle.store_map.specs.PlainMap.{bytes_of, read_at}
 use Rattle.store_map.specs.declared.reply.Reply.{Reply}
 use Rattle.store_map.specs.declared.reply.Reply.TheVariants as reply
 use Rattle.session_rules.specs.State.{Snapshot, State, numbers_of}
-use Rattle.session_rules.specs.declared.answer.Answer.{Answer}
+use Rattle.session_rules.specs.declared.session_answer.Answer.{Answer}
 use Rattle.session_rules.specs.Gathered.{ranges_between, first_unavailable}
 
 -- how many objects a snapshot may have

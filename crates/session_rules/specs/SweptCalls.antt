@@ -11,7 +11,7 @@ use Rattle.store_core.specs.NextAct.{job_of}
 use Rattle.store_core.specs.Conditions.{MayBegin, IsOfClient}
 use Rattle.store_core.specs.Step.{Places}
 use Rattle.session_rules.specs.State.{State}
-use Rattle.session_rules.specs.declared.answer.Answer.{Answer}
+use Rattle.session_rules.specs.declared.session_answer.Answer.{Answer}
 use Rattle.session_rules.specs.Calls.{serve_call}
 use Rattle.session_rules.specs.Alone.{EndsAs}
 use Rattle.session_rules.specs.Seen.{IsSeenAs, IsQuiet}

@@ -13,8 +13,8 @@ use Rattle.store_core.specs.Step.{Places, at_places, take_from}
 use Rattle.run_laws.specs.State.{first_state}
 use Rattle.run_laws.specs.StateActs.{act_of_state}
 use Rattle.session_rules.specs.State.{State, numbers_of, stripe_at}
-use Rattle.session_rules.specs.declared.answer.LostChunk.{LostChunk}
-use Rattle.session_rules.specs.declared.answer.Answer.{Answer}
+use Rattle.session_rules.specs.declared.session_answer.LostChunk.{LostChunk}
+use Rattle.session_rules.specs.declared.session_answer.Answer.{Answer}
 use Rattle.session_rules.specs.Rebuilds.{rebuild}
 use Rattle.session_rules.specs.Heals.{takes_of, to_heal, heal_all}
 use Rattle.session_rules.specs.Alone.{AtWork, step, steps, EndsAs}

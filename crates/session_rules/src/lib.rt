@@ -2,15 +2,15 @@
 //! alone serve its requests.
 #![tactic(auto)]
 
-mod answer;
-mod ending;
 pub mod laws_of_bytes;
 pub mod laws_of_requests;
 pub mod laws_of_sessions;
 mod request;
-pub mod rows;
+mod session_answer;
+mod session_ending;
+pub mod session_rows;
 pub mod snapshot_rows;
 
-pub use answer::{Answer, LostChunk, Missing};
-pub use ending::Ending;
 pub use request::Request;
+pub use session_answer::{Answer, LostChunk, Missing};
+pub use session_ending::Ending;

@@ -25,7 +25,7 @@ use Rattle.run_laws.specs.StateActs.{act_of_state}
 use Rattle.version_seal.specs.Entry.{BookOf}
 use Rattle.session_rules.specs.State.{State}
 use Rattle.session_rules.specs.Serve.{serve}
-use Rattle.session_rules.specs.declared.answer.Answer.{Answer}
+use Rattle.session_rules.specs.declared.session_answer.Answer.{Answer}
 use Rattle.session_rules.specs.declared.request.Request.{Request}
 use Rattle.session_rules.specs.Alone.{AtWork}
 use Rattle.session_rules.specs.Outcomes.{outcome_at}
@@ -64,7 +64,7 @@ use Rattle.session_store.proofs.Numbers.{known_fresh, passed_over}
 use Rattle.session_store.proofs.Outcomes.{ends_as_client, call_served, ends_call}
 use Rattle.session_store.proofs.Leaving.{LeavesPlaces, LeavesState, run_leaves, seat_back, seat_still, request_is_served}
 use Rattle.session_store.proofs.Standing.{call_epochs}
-use Rattle.session_store.specs.declared.parts.Parts.{Parts}
+use Rattle.session_store.specs.declared.session_parts.Parts.{Parts}
 use Rattle.session_store.specs.declared.places.SessionPlaces.{SessionPlaces}
 use Rattle.session_store.specs.Inside.{store_of}
 use Rattle.session_store.specs.Kept.{IsStore}

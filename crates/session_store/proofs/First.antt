@@ -31,7 +31,7 @@ use Rattle.session_rules.specs.Between.{IsBetween}
 use Rattle.session_rules.specs.Readers.{AreReaders}
 use Rattle.session_rules.proofs.Runs.{beginnings_are_between}
 use Rattle.snapshot_view.specs.Tickets.{MayGet}
-use Rattle.session_store.specs.declared.parts.Parts.{Parts}
+use Rattle.session_store.specs.declared.session_parts.Parts.{Parts}
 use Rattle.session_store.specs.Beginning.{AreNew, IsFirst, reader_tickets}
 use Rattle.session_store.specs.Inside.{store_of}
 use Rattle.session_store.specs.Kept.{HasSeat, AreOfReaders, HoldTickets}

@@ -13,13 +13,13 @@ use Rattle.store_core.specs.Act.{Outcome}
 use Rattle.store_core.specs.NextAct.{rebuild_job}
 use Rattle.store_core.specs.Step.{Shortage, Places as CorePlaces}
 use Rattle.version_seal.specs.Entry.{BookOf}
-use Rattle.session_rules.specs.declared.answer.Answer.{Answer}
+use Rattle.session_rules.specs.declared.session_answer.Answer.{Answer}
 use Rattle.session_store.specs.declared.places.SessionPlaces.{SessionPlaces}
 use Rattle.session_rules.specs.Seats.{ran, HasEnded}
 use Rattle.session_rules.specs.Answering.{took}
 use Rattle.call_steps.specs.CallOf.{tries_by, taken_of}
 use Rattle.session_store.specs.AtWork.{first_at}
-use Rattle.session_store.specs.declared.parts.Parts.{Parts}
+use Rattle.session_store.specs.declared.session_parts.Parts.{Parts}
 use Rattle.session_store.specs.Places.{seen_in}
 use Rattle.session_store.specs.Healing.{MayHeal, KeepsOthers, is_rebuilt, added_low, added_if, HasHealedOne, AreMade, HasMade, IsCutOffAt, HasHealed, AreOfServers, HealsWith}
 use Rattle.session_store.specs.Sweeping.{HasSwept}

@@ -6,12 +6,12 @@ use Rattle.clay_grid.specs.Shape.{Shape, chunk_count}
 use Rattle.store_map.specs.declared.actor.Actor.TheVariants as actor
 use Rattle.session_rules.specs.State.{State}
 use Rattle.session_rules.specs.Heals.{lost_chunks, to_heal, numbers_last}
-use Rattle.session_rules.specs.declared.answer.LostChunk.{LostChunk}
+use Rattle.session_rules.specs.declared.session_answer.LostChunk.{LostChunk}
 use Rattle.session_rules.specs.AloneHeals.{rebuild_of}
 use Rattle.session_rules.specs.Scrubs.{lost_at}
 use Rattle.session_rules.specs.Answering.{AreMadeAnew, AreTakenAnew}
 use Rattle.call_steps.specs.CallOf.{tries_by}
-use Rattle.session_store.specs.declared.parts.Parts.{Parts}
+use Rattle.session_store.specs.declared.session_parts.Parts.{Parts}
 use Rattle.session_store.specs.Inside.{store_of}
 use Rattle.session_store.specs.Kept.{IsStore}
 use Rattle.session_store.specs.Places.{seen_in}

@@ -7,7 +7,7 @@ use Rattle.store_core.specs.Lists.{is_among}
 use Rattle.session_rules.specs.State.{Stripe, State}
 use Rattle.session_rules.specs.Gathered.{holds, lacking}
 use Rattle.session_rules.specs.Heals.{servers, number_of, takes_of, heal_one}
-use Rattle.session_rules.specs.declared.answer.LostChunk.{LostChunk}
+use Rattle.session_rules.specs.declared.session_answer.LostChunk.{LostChunk}
 use Rattle.session_rules.specs.Takes.{added}
 use Rattle.session_rules.proofs.Pairs.{every_weaker}
 use Rattle.session_store.specs.Healing.{low}

@@ -17,8 +17,8 @@ use Rattle.version_seal.specs.Entry.{BookOf}
 use Rattle.session_rules.specs.State.{State}
 use Rattle.session_rules.specs.Heals.{to_heal}
 use Rattle.session_rules.specs.Shortages.{IsServed}
-use Rattle.session_rules.specs.declared.answer.Answer.{Answer}
-use Rattle.session_rules.specs.declared.answer.LostChunk.{LostChunk}
+use Rattle.session_rules.specs.declared.session_answer.Answer.{Answer}
+use Rattle.session_rules.specs.declared.session_answer.LostChunk.{LostChunk}
 use Rattle.session_rules.specs.declared.request.Request.{Request}
 use Rattle.session_rules.specs.Alone.{AtWork, steps, EndsAs}
 use Rattle.session_rules.specs.AloneHeals.{rebuild_of, AreRebuilt, healed_by}
@@ -34,7 +34,7 @@ use Rattle.session_rules.proofs.HealsAnswered.{rebuilt_of, heals_are_answered}
 use Rattle.session_rules.proofs.RunKept.{rebuilds_seat}
 use Rattle.session_rules.proofs.Repairs.{has_parity, healed}
 use Rattle.call_steps.specs.CallOf.{tries_by}
-use Rattle.session_store.specs.declared.parts.Parts.{Parts}
+use Rattle.session_store.specs.declared.session_parts.Parts.{Parts}
 use Rattle.session_store.specs.Inside.{store_of}
 use Rattle.session_store.specs.Kept.{HasSeat, IsStore, ServesRequest}
 use Rattle.session_store.specs.Places.{seen_in}

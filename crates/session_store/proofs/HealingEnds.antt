@@ -12,8 +12,8 @@ use Rattle.session_rules.specs.State.{State}
 use Rattle.session_rules.specs.Heals.{to_heal, heal_all, numbers_last}
 use Rattle.session_rules.specs.Serve.{serve}
 use Rattle.session_rules.specs.Shortages.{IsServed}
-use Rattle.session_rules.specs.declared.answer.Answer.{Answer}
-use Rattle.session_rules.specs.declared.answer.LostChunk.{LostChunk}
+use Rattle.session_rules.specs.declared.session_answer.Answer.{Answer}
+use Rattle.session_rules.specs.declared.session_answer.LostChunk.{LostChunk}
 use Rattle.session_rules.specs.declared.request.Request.{Request}
 use Rattle.session_rules.specs.AloneHeals.{rebuild_of}
 use Rattle.session_rules.specs.Scrubs.{lost_at}
@@ -23,7 +23,7 @@ use Rattle.session_rules.proofs.Answers.{healed_snapshot}
 use Rattle.session_rules.proofs.HealsAnswered.{heals_are_made}
 use Rattle.session_rules.proofs.HealsTaken.{heals_take_anew}
 use Rattle.call_steps.specs.CallOf.{tries_by}
-use Rattle.session_store.specs.declared.parts.Parts.{Parts}
+use Rattle.session_store.specs.declared.session_parts.Parts.{Parts}
 use Rattle.session_store.specs.declared.places.SessionPlaces.{SessionPlaces}
 use Rattle.session_store.specs.Inside.{store_of}
 use Rattle.session_store.specs.Kept.{HasSeat, IsStore, ServesRequest}

@@ -7,15 +7,15 @@ use Rattle.clay_grid.specs.Shape.{chunk_count}
 use Rattle.store_map.specs.declared.call.Rebuild.{Rebuild as RebuildCall}
 use Rattle.session_rules.specs.State.{State}
 use Rattle.session_rules.specs.Heals.{lost_chunks, to_heal, heal_all}
-use Rattle.session_rules.specs.declared.answer.Answer.{Answer}
-use Rattle.session_rules.specs.declared.answer.LostChunk.{LostChunk}
+use Rattle.session_rules.specs.declared.session_answer.Answer.{Answer}
+use Rattle.session_rules.specs.declared.session_answer.LostChunk.{LostChunk}
 use Rattle.session_rules.specs.declared.request.Request.{Request}
 use Rattle.session_rules.specs.AloneHeals.{rebuild_of}
 use Rattle.session_rules.specs.Scrubs.{lost_at}
 use Rattle.session_rules.proofs.LostChunks.{IsLost, lost_all}
 use Rattle.session_rules.proofs.Pairs.{every_weaker, every_filter, every_map}
 use Rattle.session_rules.proofs.Scrubs.{scrubs_are_seen}
-use Rattle.session_store.specs.declared.parts.Parts.{Parts}
+use Rattle.session_store.specs.declared.session_parts.Parts.{Parts}
 use Rattle.session_store.specs.Inside.{store_of}
 use Rattle.session_store.specs.Kept.{IsStore, ServesRequest}
 use Rattle.session_store.specs.Standing.{StandsAt}

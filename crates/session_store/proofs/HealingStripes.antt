@@ -10,7 +10,7 @@ use Rattle.store_map.specs.PlainMap.{bytes_of}
 use Rattle.session_rules.specs.State.{State}
 use Rattle.session_rules.specs.Gathered.{lacking, is_beyond_repair}
 use Rattle.session_rules.specs.Heals.{servers, lost_chunks, number_of, to_heal}
-use Rattle.session_rules.specs.declared.answer.LostChunk.{LostChunk}
+use Rattle.session_rules.specs.declared.session_answer.LostChunk.{LostChunk}
 use Rattle.session_rules.proofs.LostChunks.{IsLost, lost_all}
 use Rattle.session_rules.proofs.Pairs.{every_weaker}
 use Rattle.run_laws.proofs.SoundHistory.{same_name}

@@ -7,7 +7,7 @@ use Rattle.clay_grid.specs.Shape.{Shape, chunk_count}
 use Rattle.store_map.specs.declared.actor.Actor.{Actor}
 use Rattle.store_core.specs.NextAct.{rebuild_job}
 use Rattle.store_core.specs.Step.{Places}
-use Rattle.session_rules.specs.declared.answer.LostChunk.{LostChunk}
+use Rattle.session_rules.specs.declared.session_answer.LostChunk.{LostChunk}
 use Rattle.session_rules.specs.AloneHeals.{rebuild_of}
 use Rattle.session_rules.specs.Takes.{added}
 use Rattle.session_rules.specs.Seats.{ran}

@@ -12,11 +12,11 @@ use Rattle.version_seal.specs.Entry.{BookOf}
 use Rattle.stripe_stamps.specs.Stamped.{HaveContents}
 use Rattle.session_rules.specs.State.{State}
 use Rattle.session_rules.specs.Shortages.{IsServed}
-use Rattle.session_rules.specs.declared.answer.Answer.{Answer}
+use Rattle.session_rules.specs.declared.session_answer.Answer.{Answer}
 use Rattle.session_rules.specs.declared.request.Request.{Request}
 use Rattle.session_rules.specs.Between.{IsBetween}
 use Rattle.call_machine.specs.Calls.{MachineOf}
-use Rattle.session_store.specs.declared.parts.Parts.{Parts}
+use Rattle.session_store.specs.declared.session_parts.Parts.{Parts}
 use Rattle.session_store.specs.declared.places.SessionPlaces.{SessionPlaces}
 use Rattle.session_store.specs.Inside.{store_of}
 use Rattle.session_store.specs.Kept.{HasSeat, IsStore, ServesRequest}

@@ -11,7 +11,7 @@ use Rattle.chunk_server.specs.Core.{core_of}
 use Rattle.chunk_server.specs.State.{ServerState}
 use Rattle.session_rules.specs.State.{State}
 use Rattle.session_rules.specs.Rebuilds.{lose}
-use Rattle.session_rules.specs.declared.answer.Answer.{Answer}
+use Rattle.session_rules.specs.declared.session_answer.Answer.{Answer}
 use Rattle.session_rules.specs.declared.request.Request.{Request}
 use Rattle.session_rules.specs.Between.{IsBetween}
 use Rattle.session_rules.specs.Serving.{IsServedAlone}

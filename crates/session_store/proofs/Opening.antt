@@ -3,7 +3,7 @@ use Rattle.std.proofs.Common.{◌≡◌, ℕ, Option, None, Some, IsTrue, is_som
 use Rattle.session_rules.specs.State.{Snapshot, State}
 use Rattle.session_rules.specs.Snapshots.{snap, snap_read, snap_drop}
 use Rattle.session_rules.specs.declared.request.Request.{Request}
-use Rattle.session_rules.specs.declared.answer.Answer.{Answer}
+use Rattle.session_rules.specs.declared.session_answer.Answer.{Answer}
 use Rattle.clay_grid.specs.Shape.{Shape}
 use Rattle.snapshot_view.specs.Snapshots.{SnapshotOf}
 use Rattle.session_store.specs.Kept.{IsStore, ServesRequest}

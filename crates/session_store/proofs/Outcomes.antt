@@ -15,8 +15,8 @@ use Rattle.session_rules.specs.Gathered.{Range, is_unavailable, unavailable}
 use Rattle.session_rules.specs.Calls.{name_in, gathered_by, is_refusal, unless_unavailable, serve_by, serve_call}
 use Rattle.session_rules.specs.Placing.{after_call}
 use Rattle.session_rules.specs.Shortages.{IsServed}
-use Rattle.session_rules.specs.declared.answer.Answer.{Answer}
-use Rattle.session_rules.specs.declared.answer.Missing.{Missing}
+use Rattle.session_rules.specs.declared.session_answer.Answer.{Answer}
+use Rattle.session_rules.specs.declared.session_answer.Missing.{Missing}
 use Rattle.session_rules.specs.declared.request.Request.{Request}
 use Rattle.session_rules.specs.Outcomes.{lost_as, outcome_at}
 use Rattle.call_machine.specs.Ends.{IsEndOf}

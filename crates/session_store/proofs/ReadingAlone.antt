@@ -39,8 +39,8 @@ use Rattle.gather_parts.specs.Wanted.{parts_of}
 use Rattle.gather_parts.proofs.Handing.{state_needs, due_open, open_in_pass, open_short}
 use Rattle.snapshot_view.specs.Reads.{ReadOf, reply_by, reply_of}
 use Rattle.snapshot_view.specs.ReadSteps.{need_of, coded}
-use Rattle.snapshot_view.specs.declared.ends.Ending.{Ending}
-use Rattle.snapshot_view.specs.declared.ends.Ending.TheVariants as ending
+use Rattle.snapshot_view.specs.declared.read_outcomes.Ending.{Ending}
+use Rattle.snapshot_view.specs.declared.read_outcomes.Ending.TheVariants as ending
 use Rattle.snapshot_view.proofs.Needs.{asks_by, due_by}
 use Rattle.session_rules.specs.Alone.{AtWork}
 use Rattle.session_rules.specs.Wants.{may_code}

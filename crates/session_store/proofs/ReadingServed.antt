@@ -27,7 +27,7 @@ use Rattle.snapshot_view.specs.Met.{met_by}
 use Rattle.snapshot_view.specs.Reads.{ReadOf, reply_by, reply_of, RepliesAs, Gathers}
 use Rattle.snapshot_view.specs.Snapshots.{KeptOf, SnapshotOf, find_kept, stored_kept, StandsFor}
 use Rattle.session_rules.specs.State.{Snapshot, State}
-use Rattle.session_store.specs.declared.parts.Parts.{Parts}
+use Rattle.session_store.specs.declared.session_parts.Parts.{Parts}
 use Rattle.session_store.specs.Inside.{store_of}
 use Rattle.session_store.specs.Kept.{AreOfReaders, HoldTickets, IsStore, MayServe}
 use Rattle.session_store.specs.Standing.{AreKept, IsKeptAs, StandsAt}
@@ -52,12 +52,12 @@ use Rattle.run_laws.proofs.Bytes.{count_stripes}
 use Rattle.run_laws.proofs.SoundStripes.{pins_within}
 use Rattle.run_laws.specs.State.{State as CallAt}
 use Rattle.snapshot_view.specs.ReadSteps.{EndsAs}
-use Rattle.snapshot_view.specs.declared.ends.Ending.{Ending}
-use Rattle.snapshot_view.specs.declared.ends.Ending.TheVariants as ending
-use Rattle.snapshot_view.specs.declared.ends.SnapOutcome.{SnapOutcome}
-use Rattle.snapshot_view.specs.declared.ends.SnapOutcome.TheVariants as read
-use Rattle.session_rules.specs.declared.answer.Missing.{Missing}
-use Rattle.session_rules.specs.declared.answer.Answer.{Answer}
+use Rattle.snapshot_view.specs.declared.read_outcomes.Ending.{Ending}
+use Rattle.snapshot_view.specs.declared.read_outcomes.Ending.TheVariants as ending
+use Rattle.snapshot_view.specs.declared.read_outcomes.SnapOutcome.{SnapOutcome}
+use Rattle.snapshot_view.specs.declared.read_outcomes.SnapOutcome.TheVariants as read
+use Rattle.session_rules.specs.declared.session_answer.Missing.{Missing}
+use Rattle.session_rules.specs.declared.session_answer.Answer.{Answer}
 use Rattle.session_rules.specs.declared.request.Request.{Request}
 use Rattle.session_rules.specs.Gathered.{Range, ranges_between, is_unavailable, unavailable}
 use Rattle.session_rules.specs.Shortages.{IsServed}

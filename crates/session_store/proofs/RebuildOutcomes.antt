@@ -7,7 +7,7 @@ use Rattle.session_rules.specs.State.{Stripe, State, numbers_of}
 use Rattle.session_rules.specs.Gathered.{holds, is_beyond_repair, named}
 use Rattle.session_rules.specs.Rebuilds.{place_anew, rebuild_one, rebuild}
 use Rattle.session_rules.specs.Shortages.{IsServed}
-use Rattle.session_rules.specs.declared.answer.Answer.{Answer}
+use Rattle.session_rules.specs.declared.session_answer.Answer.{Answer}
 use Rattle.session_rules.specs.declared.request.Request.{Request}
 use Rattle.session_rules.specs.AloneRebuilds.{rebuilt_as}
 use Rattle.call_steps.specs.Outcomes.{repair_outcome_of}

@@ -14,7 +14,7 @@ use Rattle.run_laws.specs.State.{first_state}
 use Rattle.run_laws.specs.StateActs.{act_of_state}
 use Rattle.version_seal.specs.Entry.{BookOf}
 use Rattle.session_rules.specs.State.{State, numbers_of}
-use Rattle.session_rules.specs.declared.answer.Answer.{Answer}
+use Rattle.session_rules.specs.declared.session_answer.Answer.{Answer}
 use Rattle.session_rules.specs.declared.request.Request.{Request}
 use Rattle.session_rules.specs.Alone.{AtWork}
 use Rattle.session_rules.specs.AloneRebuilds.{rebuilt_as}
@@ -44,7 +44,7 @@ use Rattle.session_store.proofs.Numbers.{fresh_later, passed_over}
 use Rattle.session_store.proofs.RebuildOutcomes.{rebuild_served, ends_rebuild}
 use Rattle.session_store.proofs.Leaving.{LeavesPlaces, LeavesState, run_leaves, seat_back, seat_still, request_is_served}
 use Rattle.session_store.proofs.Standing.{rebuild_epochs}
-use Rattle.session_store.specs.declared.parts.Parts.{Parts}
+use Rattle.session_store.specs.declared.session_parts.Parts.{Parts}
 use Rattle.session_store.specs.declared.places.SessionPlaces.{SessionPlaces}
 use Rattle.session_store.specs.Inside.{store_of}
 use Rattle.session_store.specs.Kept.{IsStore}

@@ -22,7 +22,7 @@ use Rattle.stripe_stamps.specs.Sealed.{Sealed}
 use Rattle.stripe_stamps.specs.Stamped.{HaveContents}
 use Rattle.session_rules.specs.State.{Snapshot, State}
 use Rattle.session_rules.specs.Snapshots.{most_objects, snap_drop}
-use Rattle.session_rules.specs.declared.answer.Answer.{Answer}
+use Rattle.session_rules.specs.declared.session_answer.Answer.{Answer}
 use Rattle.session_rules.specs.declared.request.Request.{Request}
 use Rattle.session_rules.proofs.Whole.{whole_of}
 use Rattle.session_rules.specs.Between.{IsBetween}
@@ -42,7 +42,7 @@ use Rattle.session_store.specs.Serving.{Serves, ServesAll, dropped_one}
 use Rattle.session_store.specs.Standing.{AreKept, IsKeptAs, StandsAt, readers, seats_at}
 use Rattle.session_store.specs.Stored.{StoreOf, places_of, places_in}
 use Rattle.session_store.specs.Sweeping.{HasSwept}
-use Rattle.session_store.specs.declared.parts.Parts.{Parts}
+use Rattle.session_store.specs.declared.session_parts.Parts.{Parts}
 use Rattle.session_store.specs.declared.places.SessionPlaces.{SessionPlaces}
 use Rattle.session_store.proofs.SnapTokens.{AreOf, IsBelow, ends_same, first_are_of, ends_below, below_of, held_below, free_all, none_of, still_all}
 

@@ -27,7 +27,7 @@ use Rattle.stripe_stamps.specs.Sealed.{Sealed}
 use Rattle.stripe_stamps.specs.Stamped.{HaveContents}
 use Rattle.session_rules.specs.State.{Snapshot, State}
 use Rattle.session_rules.specs.Snapshots.{most_objects, snap}
-use Rattle.session_rules.specs.declared.answer.Answer.{Answer}
+use Rattle.session_rules.specs.declared.session_answer.Answer.{Answer}
 use Rattle.session_rules.specs.declared.request.Request.{Request}
 use Rattle.session_rules.specs.Seen.{all_numbers}
 use Rattle.session_rules.proofs.Counting.{among_append}
@@ -46,9 +46,9 @@ use Rattle.snapshot_view.specs.Releasing.{no_end, end_all as ends_of}
 use Rattle.snapshot_view.specs.Snapshots.{KeptOf, SnapshotOf, StandsFor}
 use Rattle.snapshot_view.specs.Taking.{IsTaken}
 use Rattle.snapshot_view.specs.Tickets.{AgreesWithAll, AreOfSame, MayGet, OthersAgree, pins_of}
-use Rattle.snapshot_view.specs.declared.fault.SnapFault.{SnapFault}
-use Rattle.snapshot_view.specs.declared.fault.SnapFault.TheVariants as fault
-use Rattle.snapshot_view.specs.declared.fault.SnapRefused.{SnapRefused}
+use Rattle.snapshot_view.specs.declared.snapshot_fault.SnapFault.{SnapFault}
+use Rattle.snapshot_view.specs.declared.snapshot_fault.SnapFault.TheVariants as fault
+use Rattle.snapshot_view.specs.declared.snapshot_fault.SnapRefused.{SnapRefused}
 use Rattle.session_store.specs.Kept.{HasSeat, HoldTickets, IsStore, ServesRequest}
 use Rattle.session_store.specs.Serving.{Serves}
 use Rattle.session_store.specs.Standing.{AreKept, IsKeptAs, StandsAt, readers, seats_at}

@@ -6,7 +6,7 @@ use Rattle.store_map.specs.Laws.{names_of}
 use Rattle.session_rules.specs.State.{State}
 use Rattle.session_rules.specs.Gathered.{lacking}
 use Rattle.session_rules.specs.Heals.{servers, lost_chunks}
-use Rattle.session_rules.specs.declared.answer.LostChunk.{LostChunk}
+use Rattle.session_rules.specs.declared.session_answer.LostChunk.{LostChunk}
 use Rattle.session_rules.proofs.Pairs.{every_map, every_flat}
 use Rattle.session_store.specs.LostStripes.{beside, StandTogether}
 use Rattle.session_store.proofs.HealingStripes.{later_none, none_named}

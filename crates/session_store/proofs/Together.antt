@@ -11,7 +11,7 @@ use Rattle.std.proofs.lemmas.List.Sums.{prefix_len-drop_yes, prefix_len-drop_no,
 use Rattle.std.proofs.lemmas.Option.{none-some, same_Some}
 use Rattle.run_laws.proofs.SoundHistory.{same_name}
 use Rattle.store_map.specs.declared.call.Rebuild.{Rebuild as RebuildCall}
-use Rattle.session_rules.specs.declared.answer.LostChunk.{LostChunk}
+use Rattle.session_rules.specs.declared.session_answer.LostChunk.{LostChunk}
 use Rattle.session_rules.specs.AloneHeals.{rebuild_of}
 use Rattle.session_rules.proofs.Pairs.{every_append, every_kept, every_weaker, same_bytes}
 use Rattle.session_store.specs.LostStripes.{is_beside, beside, AreFirst, StandTogether}

@@ -6,10 +6,10 @@ use Rattle.store_map.specs.declared.placement.Found.{Found}
 use Rattle.store_map.specs.declared.placement.Found.TheVariants as found
 use Rattle.store_map.specs.declared.placement.LostChunk.{LostChunk}
 use Rattle.store_map.specs.declared.reply.Reply.TheVariants as reply
-use Rattle.session_rules.specs.declared.answer.Missing.{Missing}
-use Rattle.session_rules.specs.declared.answer.Answer.{Answer}
-use Rattle.snapshot_view.specs.declared.ends.SnapOutcome.{SnapOutcome}
-use Rattle.snapshot_view.specs.declared.ends.SnapOutcome.TheVariants as read
+use Rattle.session_rules.specs.declared.session_answer.Missing.{Missing}
+use Rattle.session_rules.specs.declared.session_answer.Answer.{Answer}
+use Rattle.snapshot_view.specs.declared.read_outcomes.SnapOutcome.{SnapOutcome}
+use Rattle.snapshot_view.specs.declared.read_outcomes.SnapOutcome.TheVariants as read
 use Rattle.call_steps.specs.declared.outcomes.Outcome.{Outcome}
 use Rattle.call_steps.specs.declared.outcomes.Outcome.TheVariants as client
 use Rattle.call_steps.specs.declared.outcomes.RepairOutcome.{RepairOutcome}

@@ -20,11 +20,11 @@ use Rattle.run_laws.specs.MoreCalls.{AreDrawnBy}
 use Rattle.stripe_stamps.specs.Sealed.{Sealed}
 use Rattle.stripe_stamps.specs.Stamped.{HaveContents}
 use Rattle.call_steps.specs.CallOf.{tries_by, taken_of}
-use Rattle.session_rules.specs.declared.answer.Answer.{Answer}
+use Rattle.session_rules.specs.declared.session_answer.Answer.{Answer}
 use Rattle.session_rules.specs.Takes.{added}
 use Rattle.session_rules.specs.Seats.{ran, HasEnded}
 use Rattle.session_rules.specs.Answering.{took}
-use Rattle.session_store.specs.declared.parts.Parts.{Parts}
+use Rattle.session_store.specs.declared.session_parts.Parts.{Parts}
 use Rattle.session_store.specs.Kept.{HasSeat}
 use Rattle.session_store.specs.Places.{ArePlaces, AreSame, seen_in}
 use Rattle.session_store.specs.Sweeping.{HasSwept}

@@ -1,7 +1,7 @@
 -- A store of a session by its fields.
 use Rattle.std.specs.Option.{option_map}
-use Rattle.session_store.specs.declared.parts.Parts.{Parts}
-use Rattle.session_store.specs.declared.store.SessionStore.TheInside.{Inside}
+use Rattle.session_store.specs.declared.session_parts.Parts.{Parts}
+use Rattle.session_store.specs.declared.serving_store.SessionStore.TheInside.{Inside}
 use Rattle.session_store.specs.Stored.{StoreOf}
 use Rattle.session_store.specs.Kept.{IsStore}
 

@@ -14,7 +14,7 @@ use Rattle.snapshot_view.specs.Tickets.{AgreesWithAll, MayGet}
 use Rattle.session_store.specs.Places.{AreServers}
 use Rattle.session_store.specs.Stored.{StoreOf}
 use Rattle.session_rules.specs.declared.request.Request.{Request}
-use Rattle.session_rules.specs.declared.answer.Answer.{Answer}
+use Rattle.session_rules.specs.declared.session_answer.Answer.{Answer}
 use Rattle.session_store.specs.Standing.{readers, StandsAt}
 use Rattle.session_store.specs.Serving.{ServesAll, served_one}
 

@@ -1,6 +1,6 @@
 -- Lost chunks by their stripes.
 use Rattle.std.specs.Prelude.{◌≡◌, ⊤, ℕ, Bool, ◌&&◌, nat_eq, nat_le, bytes_eq, List, [], ◌∷◌, length, filter, take}
-use Rattle.session_rules.specs.declared.answer.LostChunk.{LostChunk}
+use Rattle.session_rules.specs.declared.session_answer.LostChunk.{LostChunk}
 
 -- another lost chunk is of the same stripe
 abbrev pub is_beside : LostChunk → LostChunk → Bool

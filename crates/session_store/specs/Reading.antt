@@ -22,8 +22,8 @@ use Rattle.call_steps.specs.Steps.{stepped_at_server}
 use Rattle.gather_parts.specs.States.{state_in, StandsIn, moved}
 use Rattle.snapshot_view.specs.Reads.{ReadOf, reply_of}
 use Rattle.snapshot_view.specs.ReadSteps.{need_of, coded}
-use Rattle.snapshot_view.specs.declared.ends.Ending.{Ending}
-use Rattle.snapshot_view.specs.declared.ends.Ending.TheVariants as ending
+use Rattle.snapshot_view.specs.declared.read_outcomes.Ending.{Ending}
+use Rattle.snapshot_view.specs.declared.read_outcomes.Ending.TheVariants as ending
 use Rattle.session_rules.specs.Alone.{AtWork}
 use Rattle.session_rules.specs.Reading.{reading_steps}
 use Rattle.session_store.specs.declared.places.SessionPlaces.{SessionPlaces}

@@ -2,7 +2,7 @@
 use Rattle.std.specs.Prelude.{⊤, ℕ, ◌+◌, ◌<◌}
 use Rattle.session_rules.specs.State.{State}
 use Rattle.session_rules.specs.declared.request.Request.{Request}
-use Rattle.session_rules.specs.declared.answer.Answer.{Answer}
+use Rattle.session_rules.specs.declared.session_answer.Answer.{Answer}
 use Rattle.session_rules.specs.Shortages.{IsServed}
 use Rattle.session_store.specs.Stored.{StoreOf}
 use Rattle.session_store.specs.Standing.{StandsAt}

@@ -11,10 +11,10 @@ ghost use Rattle.session_store.specs.Kept.{MayServe, ServesRequest};
 
 use crate::alone::run_call;
 use crate::lost_stripes::to_heal;
-use crate::parts::Parts;
 use crate::scrubs::lost_chunks;
 use crate::seats::{put, take};
-use crate::sweeps::sweep_all;
+use crate::session_parts::Parts;
+use crate::session_sweeps::sweep_all;
 use call_machine::CallMachine;
 use call_steps::{CallOutcome, RepairOutcome};
 use clay_model::Coder;

@@ -2,21 +2,21 @@
 #![tactic(auto)]
 
 mod alone;
-mod answers;
-mod beginning;
-mod calls;
+mod ended_calls;
 mod heals;
 pub mod laws_of_running_alone;
-mod losses;
 mod lost_stripes;
-mod parts;
+mod new_store;
+mod open_snapshots;
 mod places;
 mod rebuilds;
 mod scrubs;
 mod seats;
+mod served_calls;
+mod served_losses;
+mod serving_store;
+mod session_parts;
+mod session_sweeps;
 mod snapshot_reads;
-mod snapshots;
-mod store;
-mod sweeps;
 
-pub use store::SessionStore;
+pub use serving_store::SessionStore;

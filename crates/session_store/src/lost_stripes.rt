@@ -2,10 +2,10 @@
 ghost use Rattle.std.specs.Prelude.{◌≡◌, ◌<◌, ◌≤◌, ◌+◌, ◌++◌, cond, nat_le, [], length, map, drop, Some, IfOk, OnOk};
 ghost use Rattle.std.specs.List.{prefix_len, slice_get};
 ghost use Rattle.session_rules.specs.AloneHeals.{rebuild_of};
-ghost use Rattle.session_rules.specs.declared.answer.LostChunk.{LostChunk as Lost};
+ghost use Rattle.session_rules.specs.declared.session_answer.LostChunk.{LostChunk as Lost};
 ghost use Rattle.session_store.specs.LostStripes.{is_beside, healable, StandTogether};
 
-use crate::parts::Parts;
+use crate::session_parts::Parts;
 use session_rules::LostChunk;
 use std::alloc::AllocError;
 use store_map::Rebuild;

@@ -6,10 +6,10 @@ ghost use Rattle.session_store.specs.Inside.{store_of};
 ghost use Rattle.session_store.specs.Kept.{MayServe, ServesRequest};
 
 use crate::alone::{repair_outcome, run_call};
-use crate::answers::of_rebuild;
-use crate::parts::Parts;
+use crate::ended_calls::of_rebuild;
 use crate::seats::{put, take};
-use crate::sweeps::sweep_all;
+use crate::session_parts::Parts;
+use crate::session_sweeps::sweep_all;
 use call_machine::CallMachine;
 use clay_model::Coder;
 use session_rules::Answer;

@@ -7,7 +7,7 @@ ghost use Rattle.session_store.specs.Inside.{store_of};
 ghost use Rattle.session_store.specs.Kept.{IsStore, MayServe, ServesRequest};
 ghost use Rattle.session_store.specs.Stored.{places_in};
 
-use crate::parts::Parts;
+use crate::session_parts::Parts;
 use session_rules::{Answer, LostChunk};
 use std::alloc::{AllocError, Global};
 use store_map::ListOf;

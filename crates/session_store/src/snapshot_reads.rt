@@ -7,9 +7,9 @@ ghost use Rattle.session_store.specs.Kept.{MayServe, ServesRequest};
 ghost use Rattle.session_store.specs.Stepping.{GoesOn};
 ghost use Rattle.session_store.specs.Reading.{MayReadOn, HasReadOn, MayRead, HasReadTo};
 
-use crate::answers::of_read;
-use crate::parts::Parts;
+use crate::ended_calls::of_read;
 use crate::places::SessionPlaces;
+use crate::session_parts::Parts;
 use call_steps::Need;
 use clay_model::Coder;
 use session_rules::Answer;

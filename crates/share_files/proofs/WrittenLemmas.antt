@@ -9,7 +9,7 @@ use Rattle.clay_model.specs.Code.{padded}
 use Rattle.clay_aloof.specs.Shape.{AloofShape, grid_of}
 use Rattle.file_bytes.specs.Laid.{laid_at}
 use Rattle.file_bytes.proofs.LaidLemmas.{laid_behind, laid_before}
-use Rattle.share_format.specs.declared.fault.BadHeader.{BadHeader}
+use Rattle.share_format.specs.declared.format_fault.BadHeader.{BadHeader}
 use Rattle.share_format.specs.Faults.{IsFirstFault}
 use Rattle.share_format.specs.Blocks.{page_of, rounded, aligned, block_of, block_length}
 use Rattle.share_format.specs.Shares.{block_start, header_of, share_with}

@@ -6,7 +6,7 @@ use Rattle.share_format.specs.Header.{Header, IsHeader, header_bytes}
 use Rattle.share_format.specs.Shares.{share_length}
 use Rattle.share_files.specs.Found.{IsFirstRotten}
 use Rattle.share_files.specs.Refused.{IsRefusal}
-use Rattle.share_files.specs.declared.reading.HeaderRefusal.TheVariants.{Short as ShortFile, Bad}
+use Rattle.share_files.specs.declared.share_reading.HeaderRefusal.TheVariants.{Short as ShortFile, Bad}
 use Rattle.share_files.specs.declared.share_fault.ShareFault.{ShareFault}
 use Rattle.share_files.specs.declared.share_fault.ShareFault.TheVariants.{Short, Header as HeaderFault, Foreign, Padding, Block, Longer, ReadFault, OutOfMemory}
 

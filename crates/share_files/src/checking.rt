@@ -4,11 +4,11 @@ ghost use Rattle.file_bytes.specs.Places.{Shows};
 ghost use Rattle.share_format.specs.Header.{header_bytes};
 ghost use Rattle.share_files.specs.Whole.{BeginsWith, IsWhole, IsFirstFault, OneFails};
 
+use crate::block_places::{block_place, header_room};
+use crate::block_writing::padded_header;
 use crate::finding::{BlockFault, first_rotten};
-use crate::places::{block_place, header_room};
-use crate::reading::read_share_header;
 use crate::share_fault::{ShareFault, refused, unread};
-use crate::writing::padded_header;
+use crate::share_reading::read_share_header;
 use crc64::Crc64;
 use file_bytes::{ReadFault, SourceAt, read_exact_at};
 use share_format::ShareHeader;

@@ -9,9 +9,9 @@ ghost use Rattle.share_files.specs.Written.{OneRises};
 ghost use Rattle.share_files.specs.Cut.{GoOn, AreCutSoFar, AreCut, HandsOutTooMuch};
 ghost use Rattle.share_files.specs.declared.cutting.CutFault.TheVariants.{OutOfMemory};
 
-use crate::filling::read_stripe;
-use crate::shares::{write_headers, write_stripe};
-use crate::writing::PutFault;
+use crate::block_writing::PutFault;
+use crate::stripe_filling::read_stripe;
+use crate::stripe_writing::{write_headers, write_stripe};
 use clay_aloof::AloofGeometry;
 use clay_bytes::{Failed, Source};
 use crc64::Crc64;

@@ -8,8 +8,8 @@ ghost use Rattle.share_files.specs.Seen.{seen};
 ghost use Rattle.share_files.specs.Asked.{IsIn, IsAskedAt};
 ghost use Rattle.share_files.specs.declared.finding.BlockFault.TheVariants.{OutOfMemory};
 
-use crate::places::block_len;
-use crate::reading::read_block;
+use crate::block_places::block_len;
+use crate::share_reading::read_block;
 use clay_aloof::AloofGeometry;
 use clay_bytes::Failed;
 use crc64::Crc64;

@@ -13,7 +13,7 @@ ghost use Rattle.share_files.specs.SoFar.{TakesSoFar, AreReadSoFar, IsStop};
 ghost use Rattle.share_files.specs.declared.joining.JoinFault.TheVariants.{OutOfMemory};
 
 use crate::fetching::no_blocks;
-use crate::missing::forget;
+use crate::missed::forget;
 use crate::passing::pass_on;
 use crate::stripe_reading::next_stripe;
 use clay_bytes::{Sink, WriteFault};

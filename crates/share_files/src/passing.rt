@@ -9,7 +9,7 @@ ghost use Rattle.share_format.specs.Blocks.{block_length, chunk_start, IsBlock};
 ghost use Rattle.share_format.specs.Joined.{chunk_or_zeros};
 ghost use Rattle.share_files.specs.Handed.{HasBlock, HaveBlocks, data_in, bytes_in, IsReady};
 
-use crate::places::chunk_place;
+use crate::block_places::chunk_place;
 use clay_aloof::AloofGeometry;
 use clay_bytes::{Sink, WriteFault, write_all};
 use crc64::{Combiner, Crc64};

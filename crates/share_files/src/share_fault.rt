@@ -5,10 +5,10 @@ ghost use Rattle.share_files.specs.Refused.{IsRefusal};
 ghost use Rattle.share_files.specs.Whole.{IsFirstFault};
 ghost use Rattle.share_files.specs.declared.share_fault.ShareFault.TheVariants.{ReadFault, OutOfMemory};
 ghost use Rattle.share_files.specs.declared.finding.BlockFault.TheVariants.{ReadFault as BlockReadFault};
-ghost use Rattle.share_files.specs.declared.reading.HeaderRefusal.TheVariants.{ReadFault as HeaderReadFault};
+ghost use Rattle.share_files.specs.declared.share_reading.HeaderRefusal.TheVariants.{ReadFault as HeaderReadFault};
 
 use crate::finding::BlockFault;
-use crate::reading::HeaderRefusal;
+use crate::share_reading::HeaderRefusal;
 use share_format::BadHeader;
 use thiserror::Error;
 

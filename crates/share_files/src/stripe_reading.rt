@@ -12,7 +12,7 @@ ghost use Rattle.share_files.specs.Handed.{bytes_in, IsReady};
 
 use crate::fetching::read_blocks;
 use crate::joining::JoinFault;
-use crate::missing::note_missed;
+use crate::missed::note_missed;
 use clay_aloof::AloofGeometry;
 use clay_model::DecodeFault;
 use crc64::Crc64;

@@ -15,8 +15,8 @@ use Rattle.clay_aloof.proofs.Faults.{fault_outside}
 use Rattle.share_format.specs.Cut.{stripe_count}
 use Rattle.share_format.specs.Header.{magic, version, Header, IsHeader, header_with, told_bytes, header_bytes, header_in, stripes_in}
 use Rattle.share_format.specs.Faults.{IsFirstFault}
-use Rattle.share_format.specs.declared.fault.BadHeader.{BadHeader}
-use Rattle.share_format.specs.declared.fault.BadHeader.TheVariants.{Magic, Version, Checksum, Code, Size, Stripes, Share}
+use Rattle.share_format.specs.declared.format_fault.BadHeader.{BadHeader}
+use Rattle.share_format.specs.declared.format_fault.BadHeader.TheVariants.{Magic, Version, Checksum, Code, Size, Stripes, Share}
 
 -- ---- the numbers fit their bytes
 

@@ -6,8 +6,8 @@ use Rattle.clay_aloof.specs.Shape.{all_chunks}
 use Rattle.clay_aloof.specs.Limits.{IsAloof, IsFirstFault as IsCodeFault}
 use Rattle.share_format.specs.Cut.{stripe_count}
 use Rattle.share_format.specs.Header.{magic, version, header_in, stripes_in, IsIntact}
-use Rattle.share_format.specs.declared.fault.BadHeader.{BadHeader}
-use Rattle.share_format.specs.declared.fault.BadHeader.TheVariants.{Magic, Version, Checksum, Code, Size, Stripes, Share}
+use Rattle.share_format.specs.declared.format_fault.BadHeader.{BadHeader}
+use Rattle.share_format.specs.declared.format_fault.BadHeader.TheVariants.{Magic, Version, Checksum, Code, Size, Stripes, Share}
 
 -- the fault is the first that the bytes have
 abbrev pub IsFirstFault : List ℕ → BadHeader → Type 0

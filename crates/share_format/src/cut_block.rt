@@ -8,7 +8,7 @@ ghost use Rattle.clay_aloof.specs.Encoded.{chunks_in, chunks_of};
 ghost use Rattle.share_format.specs.Blocks.{block_of};
 ghost use Rattle.share_format.specs.CutBlocks.{AreBlocks};
 
-use crate::block::make_block;
+use crate::share_block::make_block;
 use clay_aloof::AloofGeometry;
 use crc64::Crc64;
 use std::alloc::{AllocError, Global};

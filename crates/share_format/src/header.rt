@@ -7,7 +7,7 @@ ghost use Rattle.share_format.specs.Cut.{stripe_count};
 ghost use Rattle.share_format.specs.Header.{IsIntact, IsHeader, header_with, header_bytes, header_in, told_bytes};
 ghost use Rattle.share_format.specs.Faults.{IsFirstFault};
 
-use crate::fault::BadHeader;
+use crate::format_fault::BadHeader;
 use byteorder::{ByteOrder, LittleEndian};
 use clay_aloof::AloofGeometry;
 use crc64::Crc64;

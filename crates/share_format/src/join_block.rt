@@ -9,7 +9,7 @@ ghost use Rattle.clay_aloof.specs.Recovered.{chunk_in};
 ghost use Rattle.share_format.specs.Blocks.{block_length, chunk_start as start_of};
 ghost use Rattle.share_format.specs.Joined.{is_lost, AreTooFew, chunk_or_zeros, IsJoined, AreChunksOf, IsRecoveredChunk};
 
-use crate::block::chunk_start;
+use crate::share_block::chunk_start;
 use aloof_recovery::recover_into;
 use clay_aloof::AloofGeometry;
 use clay_model::DecodeFault;

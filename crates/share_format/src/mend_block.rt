@@ -6,7 +6,7 @@ ghost use Rattle.clay_aloof.specs.Repair.{AreParts, IsRebuilt};
 ghost use Rattle.share_format.specs.Blocks.{subchunk, chunk_start, HasChecksum};
 ghost use Rattle.share_format.specs.Parts.{IsIntactPart};
 
-use crate::block::has_entry;
+use crate::share_block::has_entry;
 use clay_aloof::{AloofGeometry, rebuild};
 use crc64::Crc64;
 use std::alloc::{AllocError, Global};

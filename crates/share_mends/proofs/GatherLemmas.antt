@@ -18,8 +18,8 @@ use Rattle.share_mends.specs.Parts.{piece_in, IsGoodPiece}
 use Rattle.share_mends.specs.Asked.{helps, AreHelpers}
 use Rattle.share_mends.specs.Mended.{HasGood, AreOfWord, IsMended}
 use Rattle.share_mends.specs.Gathered.{HasPart, NamesPart, AreParts, ArePartsOf, NamesFirstOf}
-use Rattle.share_mends.specs.declared.fault.MendFault.{MendFault}
-use Rattle.share_mends.specs.declared.fault.MendFault.TheVariants.{Rotten, ReadFault, WriteFault, OutOfMemory}
+use Rattle.share_mends.specs.declared.mend_fault.MendFault.{MendFault}
+use Rattle.share_mends.specs.declared.mend_fault.MendFault.TheVariants.{Rotten, ReadFault, WriteFault, OutOfMemory}
 
 -- ---- one part more
 

@@ -9,8 +9,8 @@ use Rattle.share_files.specs.Seen.{Seen, Show}
 use Rattle.share_mends.specs.Asked.{helps, AreAsked}
 use Rattle.share_mends.specs.Mended.{HasGood, HaveGood, NamesFirst, IsMended}
 use Rattle.share_mends.specs.Gathered.{NamesFirstOf}
-use Rattle.share_mends.specs.declared.fault.MendFault.{MendFault}
-use Rattle.share_mends.specs.declared.fault.MendFault.TheVariants.{Rotten, ReadFault, WriteFault, OutOfMemory}
+use Rattle.share_mends.specs.declared.mend_fault.MendFault.{MendFault}
+use Rattle.share_mends.specs.declared.mend_fault.MendFault.TheVariants.{Rotten, ReadFault, WriteFault, OutOfMemory}
 use Rattle.share_mends.proofs.AskedLemmas.{asked_then}
 
 -- ---- what is read

@@ -9,8 +9,8 @@ use Rattle.std.proofs.lemmas.List.Elements.{All-get_or}
 use Rattle.std.proofs.lemmas.Slice.{between-put_mid}
 use borrow.Rule.Slice.PartMut.{put_mid}
 use Rattle.file_bytes.specs.Places.{Placed, placed_from, Shows, EndsBefore, FailsBefore, FailsIn}
-use Rattle.file_bytes.specs.declared.stream.ReadFault.{ReadFault}
-use Rattle.file_bytes.specs.declared.stream.ReadFault.TheVariants.{Failed, Ended}
+use Rattle.file_bytes.specs.declared.positions.ReadFault.{ReadFault}
+use Rattle.file_bytes.specs.declared.positions.ReadFault.TheVariants.{Failed, Ended}
 use Rattle.clay_aloof.specs.Shape.{AloofShape, all_chunks}
 use Rattle.clay_aloof.specs.Limits.{IsAloof}
 use Rattle.clay_aloof.specs.Repair.{aloof_layers_of, part_bytes}

@@ -8,8 +8,8 @@ use Rattle.share_format.specs.Blocks.{chunk_start}
 use Rattle.share_mends.specs.Parts.{piece_in, IsGoodPiece}
 use Rattle.share_mends.specs.Asked.{helps}
 use Rattle.share_mends.specs.Mended.{HasGood}
-use Rattle.share_mends.specs.declared.fault.MendFault.{MendFault}
-use Rattle.share_mends.specs.declared.fault.MendFault.TheVariants.{Rotten}
+use Rattle.share_mends.specs.declared.mend_fault.MendFault.{MendFault}
+use Rattle.share_mends.specs.declared.mend_fault.MendFault.TheVariants.{Rotten}
 
 -- a part that is there is that of a good piece
 abbrev pub HasPart : AloofShape → ℕ → List ℕ → Option (Vec ℕ Global) → Type 0

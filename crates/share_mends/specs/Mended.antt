@@ -9,9 +9,9 @@ use Rattle.share_format.specs.Blocks.{chunk_start, block_of}
 use Rattle.share_files.specs.Seen.{Seen, Show}
 use Rattle.share_mends.specs.Parts.{piece_in, IsGoodPiece}
 use Rattle.share_mends.specs.Asked.{helps}
-use Rattle.share_mends.specs.declared.fault.RottenPart.{RottenPart}
-use Rattle.share_mends.specs.declared.fault.MendFault.{MendFault}
-use Rattle.share_mends.specs.declared.fault.MendFault.TheVariants.{Rotten}
+use Rattle.share_mends.specs.declared.mend_fault.RottenPart.{RottenPart}
+use Rattle.share_mends.specs.declared.mend_fault.MendFault.{MendFault}
+use Rattle.share_mends.specs.declared.mend_fault.MendFault.TheVariants.{Rotten}
 
 -- share c's file has a good piece of stripe i
 abbrev pub HasGood : AloofShape → ℕ → List (List ℕ) → ℕ → ℕ → Type 0

@@ -12,7 +12,7 @@ ghost use Rattle.share_mends.specs.Parts.{piece_in};
 ghost use Rattle.share_mends.specs.Asked.{helps, GivesIf, AreAsked, FailsAt, NoReadFails};
 ghost use Rattle.share_mends.specs.Gathered.{HasPart, NamesPart, AreParts, ArePartsOf, NamesFirstOf};
 
-use crate::fault::{MendFault, RottenPart};
+use crate::mend_fault::{MendFault, RottenPart};
 use crate::parts::read_part;
 use crate::spans::MendPlan;
 use crc64::Crc64;

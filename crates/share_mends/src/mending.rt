@@ -15,8 +15,8 @@ ghost use Rattle.share_mends.specs.Asked.{helps, AreHelpers, AreAsked, FailsAt, 
 ghost use Rattle.share_mends.specs.Gathered.{NamesFirstOf};
 ghost use Rattle.share_mends.specs.Mended.{HasGood, HaveGood, NamesFirst, AreOfWords, IsMended, IsMendedBlock};
 
-use crate::fault::MendFault;
 use crate::gathering::read_parts;
+use crate::mend_fault::MendFault;
 use crate::parts::keep_rooms;
 use crate::spans::{MendPlan, make_plan};
 use clay_bytes::WriteFault;

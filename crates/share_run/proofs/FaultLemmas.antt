@@ -3,9 +3,9 @@ use Rattle.std.proofs.Common.{◌≡◌, ℕ, Err}
 use Rattle.std.specs.Prelude.{IsErrOf}
 use Rattle.share_files.specs.declared.joining.JoinFault.{JoinFault}
 use Rattle.share_files.specs.declared.joining.JoinFault.TheVariants.{TooFew, Mismatch, WriteFault, OutOfMemory}
-use Rattle.share_mends.specs.declared.fault.RottenPart.{RottenPart}
-use Rattle.share_mends.specs.declared.fault.MendFault.{MendFault}
-use Rattle.share_mends.specs.declared.fault.MendFault.TheVariants.{Rotten, ReadFault as UnreadPart, WriteFault as UnwrittenShare}
+use Rattle.share_mends.specs.declared.mend_fault.RottenPart.{RottenPart}
+use Rattle.share_mends.specs.declared.mend_fault.MendFault.{MendFault}
+use Rattle.share_mends.specs.declared.mend_fault.MendFault.TheVariants.{Rotten, ReadFault as UnreadPart, WriteFault as UnwrittenShare}
 use Rattle.share_mends.specs.declared.rebuilding.RebuildFault.{RebuildFault}
 use Rattle.share_mends.specs.declared.rebuilding.RebuildFault.TheVariants.{TooFew as FewBlocks, WriteFault as UnwrittenBlock}
 

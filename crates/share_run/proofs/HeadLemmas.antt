@@ -6,7 +6,7 @@ use Rattle.file_bytes.specs.Places.{FailsIn}
 use Rattle.share_format.specs.Header.{Header, IsHeader, header_bytes}
 use Rattle.share_files.specs.Seen.{Seen, seen_of}
 use Rattle.share_files.specs.Refused.{IsRefusal}
-use Rattle.share_files.specs.declared.reading.HeaderRefusal.TheVariants.{ReadFault, Short, Bad}
+use Rattle.share_files.specs.declared.share_reading.HeaderRefusal.TheVariants.{ReadFault, Short, Bad}
 use Rattle.share_run.specs.Heads.{Head, IsHead, FailsFor, IsHeadOf, head_of, AreHeads, share_count, HasNone, IsMostShared, Tell}
 use Rattle.share_run.proofs.SeenLemmas.{own, other, was}
 use Rattle.share_run.specs.Told.{TellsNext}

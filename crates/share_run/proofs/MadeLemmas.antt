@@ -17,7 +17,7 @@ use Rattle.share_files.specs.Missed.{LackBlocks}
 use Rattle.share_files.specs.Joined.{NoRotPasses, AreSharesBut}
 use Rattle.share_files.proofs.AnyShares.{shares_pass, shares_enough}
 use Rattle.share_mends.specs.Asked.{helps, AreHelpers, OneReadFails}
-use Rattle.share_mends.specs.declared.fault.RottenPart.{RottenPart}
+use Rattle.share_mends.specs.declared.mend_fault.RottenPart.{RottenPart}
 use Rattle.share_mends.specs.Mended.{HasGood, IsFirstRotten, AreOfWords}
 use Rattle.share_run.specs.Cut.{CutRun, SharesPlaced}
 use Rattle.share_run.specs.Join.{JoinRun, JoinEnds}
@@ -25,10 +25,10 @@ use Rattle.share_run.specs.Made.{ShowMade, TellsShare, PlacesOrFails}
 use Rattle.share_run.specs.Mend.{MendRun, MendEnds, MendStops, stripes_of}
 use Rattle.share_run.specs.Places.{Filled, filled}
 use Rattle.share_run.specs.Rebuild.{RebuildEnds}
-use Rattle.share_run.specs.declared.mending.MendStop.{MendStop}
-use Rattle.share_run.specs.declared.mending.MendStop.TheVariants.{RottenHelper, UnreadHelper}
-use Rattle.share_run.specs.declared.status.ShareStatus.{ShareStatus}
-use Rattle.share_run.specs.declared.status.ShareStatus.TheVariants.{Done, Usage, TooFew, BadShare, ReadFault, WriteFault, OutOfMemory}
+use Rattle.share_run.specs.declared.mends_of_shares.MendStop.{MendStop}
+use Rattle.share_run.specs.declared.mends_of_shares.MendStop.TheVariants.{RottenHelper, UnreadHelper}
+use Rattle.share_run.specs.declared.share_status.ShareStatus.{ShareStatus}
+use Rattle.share_run.specs.declared.share_status.ShareStatus.TheVariants.{Done, Usage, TooFew, BadShare, ReadFault, WriteFault, OutOfMemory}
 use Rattle.share_run.proofs.JoinLemmas.{placed_is, none_other}
 use Rattle.share_run.proofs.PieceLemmas.{part_is, piece_good}
 

@@ -9,8 +9,8 @@ use Rattle.share_files.specs.Whole.{IsWhole, IsFirstFault, OneFails}
 use Rattle.share_files.specs.declared.share_fault.ShareFault.{ShareFault}
 use Rattle.share_files.specs.declared.share_fault.ShareFault.TheVariants.{ReadFault as FailedRead, OutOfMemory as NoMemory}
 use Rattle.share_run.specs.Heads.{numbered}
-use Rattle.share_run.specs.declared.status.ShareStatus.{ShareStatus}
-use Rattle.share_run.specs.declared.status.ShareStatus.TheVariants.{Done, Usage, TooFew, BadShare, ReadFault, WriteFault, OutOfMemory}
+use Rattle.share_run.specs.declared.share_status.ShareStatus.{ShareStatus}
+use Rattle.share_run.specs.declared.share_status.ShareStatus.TheVariants.{Done, Usage, TooFew, BadShare, ReadFault, WriteFault, OutOfMemory}
 
 -- a file is the whole share of a header, or this is its first fault
 abbrev pub IsVerdict : Header → List ℕ → Option ShareFault → Type 0

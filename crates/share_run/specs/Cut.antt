@@ -5,8 +5,8 @@ use Rattle.clay_aloof.specs.Shape.{AloofShape, all_chunks}
 use Rattle.share_files.specs.Cut.{AreCut, HandsOutTooMuch}
 use Rattle.share_files.specs.Written.{OneRises}
 use Rattle.share_run.specs.Places.{Kept, filled_from, IsUntouched}
-use Rattle.share_run.specs.declared.status.ShareStatus.{ShareStatus}
-use Rattle.share_run.specs.declared.status.ShareStatus.TheVariants.{Done, Usage, TooFew, BadShare, ReadFault, WriteFault, OutOfMemory}
+use Rattle.share_run.specs.declared.share_status.ShareStatus.{ShareStatus}
+use Rattle.share_run.specs.declared.share_status.ShareStatus.TheVariants.{Done, Usage, TooFew, BadShare, ReadFault, WriteFault, OutOfMemory}
 
 -- what a source handed out, has left where it tells that, whether it told its end, and how many of its reads failed
 pub record Heard : Type 0 where

@@ -6,8 +6,8 @@ use Rattle.file_bytes.specs.Places.{Shows, FailsIn}
 use Rattle.share_format.specs.Header.{Header, IsHeader, header_with, header_bytes}
 use Rattle.share_files.specs.Seen.{Seen, seen_of}
 use Rattle.share_files.specs.Refused.{IsRefusal}
-use Rattle.share_files.specs.declared.reading.HeaderRefusal.{HeaderRefusal}
-use Rattle.share_files.specs.declared.reading.HeaderRefusal.TheVariants.{ReadFault, Short}
+use Rattle.share_files.specs.declared.share_reading.HeaderRefusal.{HeaderRefusal}
+use Rattle.share_files.specs.declared.share_reading.HeaderRefusal.TheVariants.{ReadFault, Short}
 
 -- a header that was read, or why there is none
 abbrev pub Head : Type 0

@@ -8,8 +8,8 @@ use Rattle.share_files.specs.Missed.{AreFirstMissed, LackBlocks, IsParityUnread}
 use Rattle.share_files.specs.Stripes.{AreJoined}
 use Rattle.share_files.specs.Joined.{AreNoted}
 use Rattle.share_run.specs.Places.{Kept, filled, IsUntouched, IsUnwritten}
-use Rattle.share_run.specs.declared.status.ShareStatus.{ShareStatus}
-use Rattle.share_run.specs.declared.status.ShareStatus.TheVariants.{Done, Usage, TooFew, BadShare, ReadFault, WriteFault, OutOfMemory}
+use Rattle.share_run.specs.declared.share_status.ShareStatus.{ShareStatus}
+use Rattle.share_run.specs.declared.share_status.ShareStatus.TheVariants.{Done, Usage, TooFew, BadShare, ReadFault, WriteFault, OutOfMemory}
 
 -- the shares' sources, the count of failed writes beside the file's place, and the place: each before and after a join; and what is noted
 -- of each share

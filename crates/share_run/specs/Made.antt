@@ -6,8 +6,8 @@ use Rattle.share_format.specs.Header.{Header}
 use Rattle.share_format.specs.Shares.{header_of}
 use Rattle.share_files.specs.Seen.{Seen, seen_of, failed_since, Show}
 use Rattle.share_run.specs.Places.{Kept, filled, IsUntouched}
-use Rattle.share_run.specs.declared.status.ShareStatus.{ShareStatus}
-use Rattle.share_run.specs.declared.status.ShareStatus.TheVariants.{Done, Usage, TooFew, BadShare, ReadFault, WriteFault, OutOfMemory}
+use Rattle.share_run.specs.declared.share_status.ShareStatus.{ShareStatus}
+use Rattle.share_run.specs.declared.share_status.ShareStatus.TheVariants.{Done, Usage, TooFew, BadShare, ReadFault, WriteFault, OutOfMemory}
 
 -- the sources show the shares that were made, but for lost ones, which are empty, and of which there are no more than parity chunks. No read of
 -- the others failed

@@ -12,10 +12,10 @@ use Rattle.share_files.specs.Put.{HasChunks}
 use Rattle.share_mends.specs.Asked.{AreAsked, OneReadFails, NoReadFails}
 use Rattle.share_mends.specs.Mended.{HaveGood, IsFirstRotten, AreOfWords, IsMended}
 use Rattle.share_run.specs.Places.{Kept, filled, IsUntouched, IsUnwritten}
-use Rattle.share_run.specs.declared.status.ShareStatus.{ShareStatus}
-use Rattle.share_run.specs.declared.status.ShareStatus.TheVariants.{Done, Usage, TooFew, BadShare, ReadFault, WriteFault, OutOfMemory}
-use Rattle.share_run.specs.declared.mending.MendStop.{MendStop}
-use Rattle.share_run.specs.declared.mending.MendStop.TheVariants.{RottenHelper, UnreadHelper}
+use Rattle.share_run.specs.declared.share_status.ShareStatus.{ShareStatus}
+use Rattle.share_run.specs.declared.share_status.ShareStatus.TheVariants.{Done, Usage, TooFew, BadShare, ReadFault, WriteFault, OutOfMemory}
+use Rattle.share_run.specs.declared.mends_of_shares.MendStop.{MendStop}
+use Rattle.share_run.specs.declared.mends_of_shares.MendStop.TheVariants.{RottenHelper, UnreadHelper}
 
 -- the lost share's header, and the shares' sources, the count of failed writes beside the lost share's place, and the place: each before and
 -- after a mend

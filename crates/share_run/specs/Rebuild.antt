@@ -8,8 +8,8 @@ use Rattle.share_files.specs.Joined.{NoRotPasses}
 use Rattle.share_mends.specs.Rebuilt.{IsRebuilt}
 use Rattle.share_run.specs.Places.{filled, IsUntouched, IsUnwritten}
 use Rattle.share_run.specs.Mend.{MendRun, stripes_of, IsWritten}
-use Rattle.share_run.specs.declared.status.ShareStatus.{ShareStatus}
-use Rattle.share_run.specs.declared.status.ShareStatus.TheVariants.{Done, Usage, TooFew, BadShare, ReadFault, WriteFault, OutOfMemory}
+use Rattle.share_run.specs.declared.share_status.ShareStatus.{ShareStatus}
+use Rattle.share_run.specs.declared.share_status.ShareStatus.TheVariants.{Done, Usage, TooFew, BadShare, ReadFault, WriteFault, OutOfMemory}
 
 -- a file was put into the place: the header, and the blocks of what the shares' blocks recover, or some bytes where no codeword has these.
 -- Whatever files the sources show: if they are shares of a file, with rot that its checksums find, it is the lost share of that file

@@ -1,7 +1,7 @@
 -- The exit status of a command.
 use Rattle.std.specs.Prelude.{ℕ}
-use Rattle.share_run.specs.declared.status.ShareStatus.{ShareStatus}
-use Rattle.share_run.specs.declared.status.ShareStatus.TheVariants.{Done, Usage, TooFew, BadShare, ReadFault, WriteFault, OutOfMemory}
+use Rattle.share_run.specs.declared.share_status.ShareStatus.{ShareStatus}
+use Rattle.share_run.specs.declared.share_status.ShareStatus.TheVariants.{Done, Usage, TooFew, BadShare, ReadFault, WriteFault, OutOfMemory}
 
 abbrev pub status_number : ShareStatus → ℕ
 status_number Done = 0

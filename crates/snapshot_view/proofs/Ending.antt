@@ -9,8 +9,8 @@ use Rattle.store_core.specs.AtDirectory.{at_directory}
 use Rattle.store_core.specs.Tokens.{actor_of}
 use Rattle.call_steps.specs.TokenAfter.{token_after, MayMake, IsSeated}
 use Rattle.stripe_dir.specs.Answers.{told_ended}
-use Rattle.stripe_dir.specs.declared.answers.Ended.{Ended}
-use Rattle.stripe_dir.specs.declared.answers.Ended.TheVariants as ended
+use Rattle.stripe_dir.specs.declared.directory_answers.Ended.{Ended}
+use Rattle.stripe_dir.specs.declared.directory_answers.Ended.TheVariants as ended
 use Rattle.store_core.specs.Directory.{Directory}
 use Rattle.store_core.specs.Agreement.{ActorToken}
 use Rattle.snapshot_view.specs.Tickets.{IsInCall}

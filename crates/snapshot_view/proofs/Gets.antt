@@ -26,8 +26,8 @@ use Rattle.stripe_stamps.specs.Sealed.{Sealed}
 use Rattle.stripe_dir.specs.Answers.{told_look, told_or_short}
 use Rattle.stripe_stamps.specs.SeenStripes.{seen_in}
 use Rattle.stripe_dir.specs.Shown.{IsShown}
-use Rattle.stripe_dir.specs.declared.answers.Look.{Look}
-use Rattle.stripe_dir.specs.declared.answers.Look.TheVariants as look
+use Rattle.stripe_dir.specs.declared.directory_answers.Look.{Look}
+use Rattle.stripe_dir.specs.declared.directory_answers.Look.TheVariants as look
 use Rattle.snapshot_view.specs.Snapshots.{KeptOf}
 use Rattle.snapshot_view.specs.Tickets.{MayGet, IsInCall, pins_of, passes_in}
 use Rattle.snapshot_view.specs.LookSteps.{get_of, look_one, no_look, IsSameButCalls, IsAsFound}

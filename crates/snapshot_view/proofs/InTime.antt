@@ -35,8 +35,8 @@ use Rattle.snapshot_view.specs.Met.{met_by, told_seen}
 use Rattle.snapshot_view.specs.Reads.{ReadOf}
 use Rattle.snapshot_view.specs.ReadSteps.{EndsAs}
 use Rattle.snapshot_view.specs.InTime.{Asked, WasFound, found_so_far, HasFoundAt, HasFound, version_by, NamesFound, ReadsFindInTime}
-use Rattle.snapshot_view.specs.declared.ends.SnapOutcome.{SnapOutcome}
-use Rattle.snapshot_view.specs.declared.ends.SnapOutcome.TheVariants as outcome
+use Rattle.snapshot_view.specs.declared.read_outcomes.SnapOutcome.{SnapOutcome}
+use Rattle.snapshot_view.specs.declared.read_outcomes.SnapOutcome.TheVariants as outcome
 use Rattle.snapshot_view.proofs.Needs.{asks_by}
 
 -- ---- what a server answers, by whether it gives the chunk

@@ -6,7 +6,7 @@ use Rattle.call_steps.specs.declared.need.Need.TheVariants as need
 use Rattle.gather_parts.specs.Progress.{progress_of, is_due_at, need_at, IsOver}
 use Rattle.gather_parts.specs.declared.progress.Progress.{Progress}
 use Rattle.gather_parts.specs.declared.progress.Progress.TheVariants as progress
-use Rattle.snapshot_view.specs.declared.ends.Ending.{Ending}
+use Rattle.snapshot_view.specs.declared.read_outcomes.Ending.{Ending}
 use Rattle.snapshot_view.specs.Reads.{ReadOf}
 use Rattle.snapshot_view.specs.ReadSteps.{without_directory, need_by, need_of}
 

@@ -26,7 +26,7 @@ use Rattle.snapshot_view.specs.Snapshots.{KeptOf, SnapshotOf, find_kept, stored_
 use Rattle.snapshot_view.specs.Met.{met_by, told_seen}
 use Rattle.snapshot_view.specs.Inside.{IsOfBook}
 use Rattle.snapshot_view.specs.Reads.{ReadOf, reply_by, reply_of, RepliesAs, RepliesFor, Gathers}
-use Rattle.snapshot_view.specs.declared.ends.Ending.TheVariants as ending
+use Rattle.snapshot_view.specs.declared.read_outcomes.Ending.TheVariants as ending
 use Rattle.snapshot_view.proofs.Ranging.{range_wanted}
 
 -- what is wanted of stripes, by what they tell

@@ -15,8 +15,8 @@ use Rattle.snapshot_view.specs.LookSteps.{no_look, AreLooked}
 use Rattle.snapshot_view.specs.Taking.{MayTake, IsTaken}
 use Rattle.snapshot_view.specs.Releasing.{Released, no_end, end_all}
 use Rattle.snapshot_view.specs.Refused.{IsSameButPoints, IsRefused}
-use Rattle.snapshot_view.specs.declared.fault.SnapFault.TheVariants as fault
-use Rattle.snapshot_view.specs.declared.fault.SnapRefused.{SnapRefused}
+use Rattle.snapshot_view.specs.declared.snapshot_fault.SnapFault.TheVariants as fault
+use Rattle.snapshot_view.specs.declared.snapshot_fault.SnapRefused.{SnapRefused}
 use Rattle.snapshot_view.proofs.Standing.{stands}
 use Rattle.snapshot_view.proofs.Restoring.{looks_restored}
 

@@ -11,8 +11,8 @@ use Rattle.gather_parts.specs.States.{state_in}
 use Rattle.call_steps.specs.declared.need.Need.TheVariants as need
 use Rattle.snapshot_view.specs.Reads.{ReadOf}
 use Rattle.snapshot_view.specs.ReadSteps.{need_of, stepped}
-use Rattle.snapshot_view.specs.declared.ends.SnapOutcome.{SnapOutcome}
-use Rattle.snapshot_view.specs.declared.ends.SnapOutcome.TheVariants as outcome
+use Rattle.snapshot_view.specs.declared.read_outcomes.SnapOutcome.{SnapOutcome}
+use Rattle.snapshot_view.specs.declared.read_outcomes.SnapOutcome.TheVariants as outcome
 
 -- a step of a read: which server was asked, for a chunk of which version, and the server as it stood then
 pub record Asked : Type 0 where

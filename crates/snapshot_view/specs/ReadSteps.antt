@@ -13,10 +13,10 @@ use Rattle.gather_parts.specs.Progress.{progress_of, need_at}
 use Rattle.gather_parts.specs.States.{state_in}
 use Rattle.gather_parts.specs.Steps.{stepped as gathered_step, coded as gathered_coding}
 use Rattle.snapshot_view.specs.Reads.{ReadOf, reply_of}
-use Rattle.snapshot_view.specs.declared.ends.Ending.{Ending}
-use Rattle.snapshot_view.specs.declared.ends.Ending.TheVariants as ending
-use Rattle.snapshot_view.specs.declared.ends.SnapOutcome.{SnapOutcome}
-use Rattle.snapshot_view.specs.declared.ends.SnapOutcome.TheVariants as outcome
+use Rattle.snapshot_view.specs.declared.read_outcomes.Ending.{Ending}
+use Rattle.snapshot_view.specs.declared.read_outcomes.Ending.TheVariants as ending
+use Rattle.snapshot_view.specs.declared.read_outcomes.SnapOutcome.{SnapOutcome}
+use Rattle.snapshot_view.specs.declared.read_outcomes.SnapOutcome.TheVariants as outcome
 
 -- where a call would go on at the directory, a read of a snapshot is over
 abbrev pub without_directory : Need → Need

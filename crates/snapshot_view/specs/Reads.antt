@@ -14,8 +14,8 @@ use Rattle.gather_parts.specs.Gatherings.{GatheringsOf, owed}
 use Rattle.gather_parts.specs.States.{state_in}
 use Rattle.snapshot_view.specs.Snapshots.{KeptOf, SnapshotOf, stored_kept, StandsFor}
 use Rattle.snapshot_view.specs.Met.{met_by}
-use Rattle.snapshot_view.specs.declared.ends.Ending.{Ending}
-use Rattle.snapshot_view.specs.declared.ends.Ending.TheVariants as ending
+use Rattle.snapshot_view.specs.declared.read_outcomes.Ending.{Ending}
+use Rattle.snapshot_view.specs.declared.read_outcomes.Ending.TheVariants as ending
 
 -- its gatherings, and how it has ended, where that isn't what they come to
 pub record ReadOf : Type 0 where

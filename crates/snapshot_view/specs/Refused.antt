@@ -5,8 +5,8 @@ use Rattle.stripe_stamps.specs.Sealed.{Sealed}
 use Rattle.snapshot_view.specs.Tickets.{AgreesWithAll, AreOfSame}
 use Rattle.snapshot_view.specs.LookSteps.{Looked, look_all, no_look}
 use Rattle.snapshot_view.specs.Releasing.{Released, end_all, no_end}
-use Rattle.snapshot_view.specs.declared.fault.SnapFault.TheVariants as fault
-use Rattle.snapshot_view.specs.declared.fault.SnapRefused.{SnapRefused}
+use Rattle.snapshot_view.specs.declared.snapshot_fault.SnapFault.TheVariants as fault
+use Rattle.snapshot_view.specs.declared.snapshot_fault.SnapRefused.{SnapRefused}
 
 -- there are more objects than tickets, and nothing changed
 pub record AreTooMany (tokens : List ActorToken) (before after : Sealed) (refused : SnapRefused) : Type 0 where

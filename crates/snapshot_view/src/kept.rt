@@ -7,9 +7,9 @@ ghost use Rattle.snapshot_view.specs.InTime.{HasFound};
 ghost use Rattle.snapshot_view.specs.Inside.{IsOfBook};
 ghost use Rattle.snapshot_view.specs.Reads.{RepliesFor, Gathers};
 
-use crate::ends::Ending;
 use crate::met::{copies_of, those_met};
-use crate::read::SnapRead;
+use crate::read_outcomes::Ending;
+use crate::snapshot_read::SnapRead;
 use call_steps::Seen;
 use std::alloc::{AllocError, Global};
 use std::marker::Model;

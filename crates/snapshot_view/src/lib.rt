@@ -2,18 +2,18 @@
 //! snapshot is kept, and reads of them that need the servers alone.
 #![tactic(auto)]
 
-mod ends;
-mod fault;
 mod kept;
-pub mod laws;
+pub mod laws_of_snapshots;
 mod looks;
 mod met;
-mod read;
+mod read_outcomes;
 mod release;
 mod snapshot;
+mod snapshot_fault;
+mod snapshot_read;
 mod take;
 
-pub use ends::SnapOutcome;
-pub use fault::{SnapFault, SnapRefused};
-pub use read::SnapRead;
+pub use read_outcomes::SnapOutcome;
 pub use snapshot::Snapshot;
+pub use snapshot_fault::{SnapFault, SnapRefused};
+pub use snapshot_read::SnapRead;

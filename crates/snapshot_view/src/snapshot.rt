@@ -5,9 +5,9 @@ ghost use Rattle.snapshot_view.specs.InTime.{HasFound};
 ghost use Rattle.snapshot_view.specs.Snapshots.{KeptOf, find_kept};
 ghost use Rattle.snapshot_view.specs.Reads.{RepliesAs, Gathers};
 
-use crate::ends::Ending;
 use crate::kept::{Kept, find};
-use crate::read::SnapRead;
+use crate::read_outcomes::Ending;
+use crate::snapshot_read::SnapRead;
 use dir_tickets::Ticket;
 use std::alloc::{AllocError, Global};
 use std::marker::Model;

@@ -4,11 +4,11 @@ ghost use Rattle.snapshot_view.specs.Tickets.{OthersAgree};
 ghost use Rattle.snapshot_view.specs.Taking.{MayTake, IsTaken};
 ghost use Rattle.snapshot_view.specs.Refused.{IsRefused};
 
-use crate::fault::{SnapFault, SnapRefused};
 use crate::kept::Kept;
 use crate::looks::{look_all, names_of};
 use crate::release::end_passes;
 use crate::snapshot::Snapshot;
+use crate::snapshot_fault::{SnapFault, SnapRefused};
 use dir_tickets::Ticket;
 use std::alloc::{AllocError, Global};
 use store_map::{Name, Point};

@@ -2,5 +2,5 @@
 //! server, the run of a schedule, and the transcript that it shows.
 #![tactic(auto)]
 
-pub mod laws;
-pub mod rows;
+pub mod laws_of_steps;
+pub mod rows_of_runs;

@@ -8,7 +8,7 @@ mod call_name;
 mod cause;
 mod content;
 mod copies;
-pub mod laws;
+pub mod laws_of_the_map;
 mod limits;
 mod line;
 mod list_of;

@@ -39,7 +39,7 @@ use Rattle.run_seats.specs.declared.seated.Seated.{Seated}
 use Rattle.run_seats.specs.declared.seated_operator.SeatedOperator.{SeatedOperator}
 use Rattle.run_seats.specs.declared.seated_sweeper.SeatedSweeper.{SeatedSweeper}
 use Rattle.run_seats.specs.declared.store.Store.{Store}
-use Rattle.run_seats.specs.declared.turns.Turns.{Turns}
+use Rattle.run_seats.specs.declared.seat_turns.Turns.{Turns}
 
 -- ---- turns that have seen nothing
 module _ (store : Store) (turns : Turns) (new : AreNew store turns) where

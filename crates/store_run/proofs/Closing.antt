@@ -25,7 +25,7 @@ use Rattle.run_seats.specs.declared.server_box.ServerIdentity.{ServerIdentity}
 use Rattle.run_seats.specs.declared.store.Store.{Store}
 use Rattle.store_run.specs.Closed.{AreServersOut, IsDirectoryOut, IsServerOut}
 use Rattle.store_run.specs.Left.{HasLeft, turns_in}
-use Rattle.store_run.specs.declared.ending.Left.{Left}
+use Rattle.store_run.specs.declared.left_workers.Left.{Left}
 
 -- ---- the turns that actors leave
 turns_of_actor : (store : Store) (actor : SeatedActor) → IsSeatedActor store actor → HasTurns store (turns_in actor)

@@ -13,7 +13,7 @@ use Rattle.run_seats.specs.Places.{IsStore, directory_of, server_of}
 use Rattle.run_seats.specs.declared.directory_box.DirectoryIdentity.{DirectoryIdentity}
 use Rattle.run_seats.specs.declared.server_box.ServerIdentity.{ServerIdentity}
 use Rattle.run_seats.specs.declared.store.Store.{Store}
-use Rattle.run_seats.specs.declared.turns.Turns.{Turns}
+use Rattle.run_seats.specs.declared.seat_turns.Turns.{Turns}
 use Rattle.store_run.specs.Dealt.{IsDeck}
 use Rattle.store_run.specs.First.{AreNew}
 use Rattle.store_run.specs.declared.deck.Deck.{Deck}

@@ -47,7 +47,7 @@ use Rattle.run_seats.specs.declared.store.Store.{Store}
 use Rattle.store_run.specs.Closed.{AreServersOut, IsDirectoryOut}
 use Rattle.store_run.specs.Ended.{AreCallsOf, IsEnded}
 use Rattle.store_run.specs.Left.{HasLeft, IsOver, LeavesCalls, turns_in}
-use Rattle.store_run.specs.declared.ending.Left.{Left}
+use Rattle.store_run.specs.declared.left_workers.Left.{Left}
 use Rattle.store_run.proofs.Chosen.{Chosen, chosen, same_images}
 use Rattle.store_run.proofs.Closing.{has_turns}
 use Rattle.store_run.proofs.Over.{client_ended, repairer_ended}

@@ -26,8 +26,8 @@ use Rattle.run_seats.specs.declared.store.Store.{Store}
 use Rattle.store_run.specs.Dealt.{turns_of}
 use Rattle.store_run.specs.Leaving.{AreAllOver, AreCallsBy, HasLeftOf, HasRoom, IsNextOf, Leaves, is_client}
 use Rattle.store_run.specs.Left.{HasLeft, IsOver, LeavesCalls, LeavesSweeper, turns_in}
-use Rattle.store_run.specs.declared.ending.Leaving.TheVariants as leaving
-use Rattle.store_run.specs.declared.ending.Left.{Left}
+use Rattle.store_run.specs.declared.left_workers.Leaving.TheVariants as leaving
+use Rattle.store_run.specs.declared.left_workers.Left.{Left}
 use Rattle.store_run.proofs.WhoseNumber.{client_number, number_below, operator_behind, repairer_number, sweeper_at}
 
 -- ---- who leaves what

@@ -19,7 +19,7 @@ use Rattle.run_seats.specs.declared.seated_actor.SeatedActor.{SeatedActor}
 use Rattle.run_seats.specs.declared.server_box.ServerIdentity.{ServerIdentity}
 use Rattle.run_seats.specs.declared.store.Store.{Store}
 use Rattle.store_run.specs.Left.{HasLeft, turns_in}
-use Rattle.store_run.specs.declared.ending.Left.{Left}
+use Rattle.store_run.specs.declared.left_workers.Left.{Left}
 
 module _ (store : Store) (left : Left) (has : HasLeft store left) (n : ℕ) (actor : SeatedActor) (there : slice_get has.actors n ≡ Some actor) where
   -- its turn at the directory, and its row of turns

@@ -6,7 +6,7 @@ use Rattle.turn_lock.specs.TurnState.{TurnState}
 use Rattle.run_seats.specs.Places.{HasTurns}
 use Rattle.run_seats.specs.declared.server_box.ServerIdentity.{ServerIdentity}
 use Rattle.run_seats.specs.declared.store.Store.{Store}
-use Rattle.run_seats.specs.declared.turns.Turns.{Turns}
+use Rattle.run_seats.specs.declared.seat_turns.Turns.{Turns}
 
 -- an actor's turns that have seen nothing
 pub record AreNew (store : Store) (turns : Turns) : Type 0 where

@@ -17,9 +17,9 @@ use Rattle.run_seats.specs.declared.seated_actor.SeatedActor.TheVariants as kind
 use Rattle.run_seats.specs.declared.store.Store.{Store}
 use Rattle.store_run.specs.Dealt.{turns_of}
 use Rattle.store_run.specs.Left.{IsOver, LeavesCalls, LeavesSweeper, turns_in}
-use Rattle.store_run.specs.declared.ending.Leaving.{Leaving}
-use Rattle.store_run.specs.declared.ending.Leaving.TheVariants as leaving
-use Rattle.store_run.specs.declared.ending.Left.{Left}
+use Rattle.store_run.specs.declared.left_workers.Leaving.{Leaving}
+use Rattle.store_run.specs.declared.left_workers.Leaving.TheVariants as leaving
+use Rattle.store_run.specs.declared.left_workers.Left.{Left}
 
 -- whether it is a client
 abbrev pub is_client : Actor → Bool

@@ -14,9 +14,9 @@ use Rattle.run_seats.specs.declared.seated_actor.SeatedActor.{SeatedActor}
 use Rattle.run_seats.specs.declared.seated_actor.SeatedActor.TheVariants as kind
 use Rattle.run_seats.specs.declared.seated_sweeper.SeatedSweeper.{SeatedSweeper}
 use Rattle.run_seats.specs.declared.store.Store.{Store}
-use Rattle.run_seats.specs.declared.turns.Turns.{Turns}
+use Rattle.run_seats.specs.declared.seat_turns.Turns.{Turns}
 use Rattle.store_run.specs.Dealt.{turns_of}
-use Rattle.store_run.specs.declared.ending.Left.{Left}
+use Rattle.store_run.specs.declared.left_workers.Left.{Left}
 
 -- its turns
 abbrev pub turns_in : SeatedActor → Turns

@@ -10,7 +10,7 @@ ghost use Rattle.store_run.specs.Closed.{AreServersOut, IsDirectoryOut};
 ghost use Rattle.store_run.specs.Ended.{IsEnded};
 ghost use Rattle.store_run.specs.Left.{HasLeft};
 
-use crate::ending::Left;
+use crate::left_workers::Left;
 use call_steps::CallerCalls;
 use chunk_server::Server;
 use run_seats::{DirectoryBox, ServerBox, Store};

@@ -3,11 +3,11 @@
 
 mod deck;
 mod ended;
-mod ending;
-mod places;
+mod last_sweeps;
+mod left_workers;
+mod locked_places;
 mod seating;
 mod showing;
-mod sweeping;
 mod threaded_run;
 
 pub use run_seats::{Gate, NoGate, Place};

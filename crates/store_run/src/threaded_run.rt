@@ -12,8 +12,8 @@ ghost use Rattle.store_run.specs.Swept.{IsRunToEnd};
 
 use crate::deck::Deck;
 use crate::ended::close;
-use crate::ending::{Left, gather, leave_workers};
-use crate::places::{leave_seats, lock_places};
+use crate::left_workers::{Left, gather, leave_workers};
+use crate::locked_places::{leave_seats, lock_places};
 use crate::seating::{Seating, new_workers};
 use clay_model::Coder;
 use run_seats::{Gate, Store, Worker, work_together};

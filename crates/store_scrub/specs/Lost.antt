@@ -2,7 +2,7 @@
 use Rattle.std.specs.Prelude.{◌≡◌, ℕ, false, List, map, All}
 use Rattle.store_core.specs.Directory.{Directory}
 use Rattle.store_core.specs.Step.{Places}
-use Rattle.session_rules.specs.declared.answer.LostChunk.{LostChunk as Lost}
+use Rattle.session_rules.specs.declared.session_answer.LostChunk.{LostChunk as Lost}
 use Rattle.session_rules.specs.Scrubs.{servers_without}
 use Rattle.chunk_server.specs.State.{ServerState}
 use Rattle.chunk_server.specs.Core.{core_of}

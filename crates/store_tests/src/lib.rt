@@ -3,19 +3,19 @@
 #![tactic(auto)]
 
 #[cfg(test)]
-mod memory;
-#[cfg(test)]
 mod points;
 #[cfg(test)]
-mod sealing;
+mod sealed_chunk_tests;
 #[cfg(test)]
-mod servers;
+mod server_tests;
 #[cfg(test)]
 mod shelf;
 #[cfg(test)]
-mod strays;
+mod short_memory;
 #[cfg(test)]
-mod versions;
+mod stray_tests;
+#[cfg(test)]
+mod version_tests;
 #[cfg(test)]
 mod walk;
 

@@ -8,7 +8,7 @@ ghost use Rattle.store_core.specs.Agreement.{AgreesWithSeat};
 ghost use Rattle.stripe_dir.specs.Seats.{client_seat};
 ghost use Rattle.store_tests.specs.Walk.{IsWalk, AreOf};
 
-use crate::sealing::small_geometry;
+use crate::sealed_chunk_tests::small_geometry;
 use crate::walk::{Fault, TURNS, begin, put_of_a_stripe, servers, step};
 use call_steps::{Act, DirectoryAct, Need, Outcome};
 use chunk_server::Server;

@@ -3,8 +3,8 @@
 ghost use Rattle.std.specs.Prelude.{◌≡◌, ◌<◌, ◌∷◌, [], All, IfOk};
 ghost use Rattle.store_tests.specs.Small.{IsSmall};
 
-use crate::sealing::{chunk, stamps};
-use crate::servers::Step;
+use crate::sealed_chunk_tests::{chunk, stamps};
+use crate::server_tests::Step;
 use chunk_server::{Fetched, Installed, Server};
 use std::alloc::{AllocError, Global};
 use std::marker::Model;

@@ -26,7 +26,7 @@ use Rattle.call_steps.specs.declared.answer.ServerAnswer.{ServerAnswer}
 use Rattle.call_steps.specs.declared.need.Need.TheVariants as need
 use Rattle.call_steps.specs.Acts.{act_by, server_act}
 use Rattle.call_steps.specs.Answers.{directory_answer, server_told}
-use Rattle.call_steps.specs.declared.step.StepAnswer.TheVariants as answer
+use Rattle.call_steps.specs.declared.step_made.StepAnswer.TheVariants as answer
 use Rattle.stripe_stamps.specs.Sealed.{Sealed}
 use Rattle.sweeper.specs.Sweeps.{SweeperOf, act_of, need_at, need_of, stepped_at_directory, stepped_at_server, told_at_directory, told_at_server}
 use Rattle.world_laws.specs.World.{WorldOf, with_directory, with_server, with_sweeper}

@@ -12,7 +12,7 @@ use Rattle.history_laws.specs.Steps.{run_trace}
 use Rattle.history_laws.proofs.Ample.{ample_runs_are_one}
 use Rattle.history_laws.proofs.Plays.{runs_are_faithful, runs_are_played}
 use Rattle.history_laws.proofs.Shows.{runs_show_histories}
-use Rattle.call_steps.specs.declared.step.Step.{Step}
+use Rattle.call_steps.specs.declared.step_made.Step.{Step}
 use Rattle.world_laws.specs.StepsTold.{AreSteps}
 use Rattle.world_laws.specs.World.{WorldOf}
 use Rattle.world_laws.specs.Known.{core_of}

@@ -6,7 +6,7 @@ use Rattle.store_map.specs.declared.script.Script.{Script}
 use Rattle.store_core.specs.Core.{sweeper_has_step}
 use Rattle.history_laws.specs.Trace.{Made}
 use Rattle.history_laws.specs.Steps.{sweep_token}
-use Rattle.call_steps.specs.declared.step.Step.{Step}
+use Rattle.call_steps.specs.declared.step_made.Step.{Step}
 use Rattle.world_laws.specs.World.{WorldOf}
 use Rattle.world_laws.specs.Known.{core_of}
 use Rattle.world_laws.specs.Telling.{LeadsTelling}

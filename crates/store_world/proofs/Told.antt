@@ -24,8 +24,8 @@ use Rattle.call_steps.specs.declared.need.Need.TheVariants as need
 use Rattle.call_steps.specs.Acts.{act_by, server_act}
 use Rattle.call_steps.specs.Answers.{directory_answer, server_told}
 use Rattle.sweeper.specs.Sweeps.{need_at, told_at_directory_by, told_at_server_by}
-use Rattle.call_steps.specs.declared.step.StepAnswer.TheVariants as answer
-use Rattle.call_steps.specs.declared.step.Step.{Step}
+use Rattle.call_steps.specs.declared.step_made.StepAnswer.TheVariants as answer
+use Rattle.call_steps.specs.declared.step_made.Step.{Step}
 use Rattle.world_laws.specs.StepsTold.{IsStep}
 use Rattle.world_laws.specs.World.{ActorOf}
 use Rattle.world_laws.specs.Goes.{Leads}

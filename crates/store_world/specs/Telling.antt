@@ -11,9 +11,9 @@ use Rattle.call_steps.specs.declared.act.DirectoryAct.TheVariants as there
 use Rattle.call_steps.specs.declared.act.ServerAct.{ServerAct}
 use Rattle.call_steps.specs.declared.answer.DirectoryAnswer.TheVariants as said
 use Rattle.call_steps.specs.declared.answer.ServerAnswer.TheVariants as done
-use Rattle.call_steps.specs.declared.step.StepAnswer.{StepAnswer}
-use Rattle.call_steps.specs.declared.step.StepAnswer.TheVariants as answer
-use Rattle.call_steps.specs.declared.step.Step.{Step}
+use Rattle.call_steps.specs.declared.step_made.StepAnswer.{StepAnswer}
+use Rattle.call_steps.specs.declared.step_made.StepAnswer.TheVariants as answer
+use Rattle.call_steps.specs.declared.step_made.Step.{Step}
 use Rattle.world_laws.specs.StepsTold.{AreSteps}
 use Rattle.world_laws.specs.Telling.{LeadsTelling}
 use Rattle.store_world.specs.Stored.{StoredWorld, world_of}

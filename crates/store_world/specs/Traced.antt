@@ -4,7 +4,7 @@ use Rattle.store_map.specs.declared.script.Script.{Script}
 use Rattle.store_map.specs.declared.transcript.Transcript.{Transcript}
 use Rattle.history_laws.specs.Steps.{run_trace}
 use Rattle.history_laws.specs.Played.{IsPlayed}
-use Rattle.call_steps.specs.declared.step.Step.{Step}
+use Rattle.call_steps.specs.declared.step_made.Step.{Step}
 use Rattle.world_laws.specs.StepsTold.{AreSteps}
 
 -- the transcript is one that a run of the script shows, and the steps are that run's trace: of the same wants of memory

@@ -2,10 +2,10 @@
 //! sweeper. Its steps are those of the store's definitions.
 #![tactic(auto)]
 
-mod beginning;
 mod drain;
-mod ending;
-pub mod laws_of_serving;
+mod last_world;
+pub mod laws_of_worlds_that_serve;
+mod new_world;
 mod operator;
 mod script_run;
 mod step;

@@ -2,7 +2,7 @@
 ghost use Rattle.std.specs.Prelude.{◌≡◌, [], List, Some, IfOk, OnOk};
 ghost use Rattle.store_map.specs.Naming.{IsValid};
 ghost use Rattle.version_seal.specs.Sealer.{sealer_at};
-ghost use Rattle.call_steps.specs.declared.step.Step.{Step};
+ghost use Rattle.call_steps.specs.declared.step_made.Step.{Step};
 ghost use Rattle.history_laws.specs.Played.{IsPlayed};
 ghost use Rattle.world_laws.specs.Goes.{IsReachedBy};
 ghost use Rattle.store_world.specs.Stored.{world_of};

@@ -1,7 +1,7 @@
 //! Who is told of the steps that are made in a world.
 ghost use Rattle.std.specs.Prelude.{◌≡◌, ◌++◌, ◌∷◌, [], List, OnOk, ⊤};
 ghost use Rattle.std.proofs.Common.{sym, ◌∙◌, append_assoc, append-nil};
-ghost use Rattle.call_steps.specs.declared.step.Step.{Step};
+ghost use Rattle.call_steps.specs.declared.step_made.Step.{Step};
 ghost use Rattle.store_world.specs.Telling.{steps_in};
 
 use call_steps::Step;

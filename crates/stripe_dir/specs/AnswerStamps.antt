@@ -6,12 +6,12 @@ use Rattle.store_core.specs.Directory.{Pass}
 use Rattle.store_core.specs.Agreement.{HeldPass}
 use Rattle.version_seal.specs.Entry.{StampOf, RequestOf}
 use Rattle.stripe_stamps.specs.Sealed.{Sealed, stamps_touched}
-use Rattle.stripe_dir.specs.declared.answers.Look.{Look}
-use Rattle.stripe_dir.specs.declared.answers.Look.TheVariants as look
-use Rattle.stripe_dir.specs.declared.answers.RepairLook.{RepairLook}
-use Rattle.stripe_dir.specs.declared.answers.RepairLook.TheVariants as repair
-use Rattle.stripe_dir.specs.declared.answers.Drawn.{Drawn}
-use Rattle.stripe_dir.specs.declared.answers.Drawn.TheVariants as drawn
+use Rattle.stripe_dir.specs.declared.directory_answers.Look.{Look}
+use Rattle.stripe_dir.specs.declared.directory_answers.Look.TheVariants as look
+use Rattle.stripe_dir.specs.declared.directory_answers.RepairLook.{RepairLook}
+use Rattle.stripe_dir.specs.declared.directory_answers.RepairLook.TheVariants as repair
+use Rattle.stripe_dir.specs.declared.directory_answers.Drawn.{Drawn}
+use Rattle.stripe_dir.specs.declared.directory_answers.Drawn.TheVariants as drawn
 use Rattle.stripe_stamps.specs.SeenStripes.{IsSeenIn}
 
 -- so are those of a client's look

@@ -1,18 +1,18 @@
 -- The tickets that come back with the answers.
 use Rattle.std.specs.Prelude.{Result, Ok, Err}
 use Rattle.store_core.specs.Agreement.{Seat, HeldPass, ActorToken}
-use Rattle.stripe_dir.specs.declared.answers.Look.{Look}
-use Rattle.stripe_dir.specs.declared.answers.Look.TheVariants as look
-use Rattle.stripe_dir.specs.declared.answers.RepairLook.{RepairLook}
-use Rattle.stripe_dir.specs.declared.answers.RepairLook.TheVariants as repair
-use Rattle.stripe_dir.specs.declared.answers.Drawn.{Drawn}
-use Rattle.stripe_dir.specs.declared.answers.Drawn.TheVariants as drawn
-use Rattle.stripe_dir.specs.declared.answers.Committed.{Committed}
-use Rattle.stripe_dir.specs.declared.answers.Committed.TheVariants as committed
-use Rattle.stripe_dir.specs.declared.answers.Ended.{Ended}
-use Rattle.stripe_dir.specs.declared.answers.Ended.TheVariants as ended
-use Rattle.stripe_dir.specs.declared.answers.Confirmed.{Confirmed}
-use Rattle.stripe_dir.specs.declared.answers.Confirmed.TheVariants as confirmed
+use Rattle.stripe_dir.specs.declared.directory_answers.Look.{Look}
+use Rattle.stripe_dir.specs.declared.directory_answers.Look.TheVariants as look
+use Rattle.stripe_dir.specs.declared.directory_answers.RepairLook.{RepairLook}
+use Rattle.stripe_dir.specs.declared.directory_answers.RepairLook.TheVariants as repair
+use Rattle.stripe_dir.specs.declared.directory_answers.Drawn.{Drawn}
+use Rattle.stripe_dir.specs.declared.directory_answers.Drawn.TheVariants as drawn
+use Rattle.stripe_dir.specs.declared.directory_answers.Committed.{Committed}
+use Rattle.stripe_dir.specs.declared.directory_answers.Committed.TheVariants as committed
+use Rattle.stripe_dir.specs.declared.directory_answers.Ended.{Ended}
+use Rattle.stripe_dir.specs.declared.directory_answers.Ended.TheVariants as ended
+use Rattle.stripe_dir.specs.declared.directory_answers.Confirmed.{Confirmed}
+use Rattle.stripe_dir.specs.declared.directory_answers.Confirmed.TheVariants as confirmed
 
 -- the ticket after a client's look
 abbrev pub token_look : Look Seat HeldPass → ActorToken

@@ -5,10 +5,10 @@ use Rattle.store_core.specs.Placements.{IsRow}
 use Rattle.stripe_stamps.specs.Sealed.{Sealed}
 use Rattle.stripe_stamps.specs.SeenStripes.{IsSeenIn}
 use Rattle.call_steps.specs.declared.seen.Seen.{Seen}
-use Rattle.stripe_dir.specs.declared.answers.Look.{Look}
-use Rattle.stripe_dir.specs.declared.answers.Look.TheVariants as look
-use Rattle.stripe_dir.specs.declared.answers.RepairLook.{RepairLook}
-use Rattle.stripe_dir.specs.declared.answers.RepairLook.TheVariants as repair
+use Rattle.stripe_dir.specs.declared.directory_answers.Look.{Look}
+use Rattle.stripe_dir.specs.declared.directory_answers.Look.TheVariants as look
+use Rattle.stripe_dir.specs.declared.directory_answers.RepairLook.{RepairLook}
+use Rattle.stripe_dir.specs.declared.directory_answers.RepairLook.TheVariants as repair
 
 -- the note of a repairer's look
 abbrev pub repair_note : List ℕ → ℕ → Note

@@ -14,12 +14,12 @@ use Rattle.stripe_stamps.specs.Sealed.{Sealed}
 use Rattle.stripe_dir.specs.Answers.{told_by_look, told_by_repair_look, told_by_draw, told_committed, told_ended, told_confirmed}
 use Rattle.stripe_dir.specs.AnswerTokens.{token_look, token_repair_look, token_or_seat}
 use Rattle.dir_parts.specs.Begun.{or_short}
-use Rattle.stripe_dir.specs.declared.answers.Look.{Look}
-use Rattle.stripe_dir.specs.declared.answers.RepairLook.{RepairLook}
-use Rattle.stripe_dir.specs.declared.answers.Drawn.{Drawn}
-use Rattle.stripe_dir.specs.declared.answers.Committed.{Committed}
-use Rattle.stripe_dir.specs.declared.answers.Ended.{Ended}
-use Rattle.stripe_dir.specs.declared.answers.Confirmed.{Confirmed}
+use Rattle.stripe_dir.specs.declared.directory_answers.Look.{Look}
+use Rattle.stripe_dir.specs.declared.directory_answers.RepairLook.{RepairLook}
+use Rattle.stripe_dir.specs.declared.directory_answers.Drawn.{Drawn}
+use Rattle.stripe_dir.specs.declared.directory_answers.Committed.{Committed}
+use Rattle.stripe_dir.specs.declared.directory_answers.Ended.{Ended}
+use Rattle.stripe_dir.specs.declared.directory_answers.Confirmed.{Confirmed}
 
 -- the step of an actor's call with this number, with ample memory or without
 abbrev pub IsStep : Actor → ℕ → DirectoryStep → Sealed → Sealed → Bool → Told → Type 0

@@ -12,10 +12,10 @@ ghost use Rattle.stripe_dir.specs.Steps.{IsLook, LooksTo, LookLeaves};
 ghost use Rattle.stripe_dir.specs.AnswerStamps.{AreSeenIn};
 ghost use Rattle.dir_parts.specs.Begun.{accepted, base_by, begins_pass, has_point};
 
-use crate::answers::Look;
 use crate::directory::Directory;
+use crate::directory_answers::Look;
 use crate::looking::Begun;
-use crate::steps::or_first;
+use crate::pass_ends::or_first;
 use crate::tokens::{Pass, Seat};
 use dir_parts::{CallKind, CallNote, DirectoryReply, History, Objects, note_of, refusal};
 use store_map::{Call, Name, Point};

@@ -12,9 +12,9 @@ ghost use Rattle.stripe_dir.specs.AnswerTokens.{token_committed};
 ghost use Rattle.stripe_dir.specs.Installed.{installed, dropped, changed_in, IsLiveIn};
 ghost use Rattle.stripe_dir.specs.Steps.{IsCommit, commit_step};
 
-use crate::answers::Committed;
 use crate::directory::Directory;
-use crate::steps::{or_first, seat_of};
+use crate::directory_answers::Committed;
+use crate::pass_ends::{or_first, seat_of};
 use crate::tokens::{Pass, Seat};
 use dir_parts::{CallKind, CallNote, Event, Objects, OpenPass};
 use store_map::{Actor, Placement, Point};

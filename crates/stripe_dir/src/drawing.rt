@@ -15,8 +15,8 @@ ghost use Rattle.stripe_dir.specs.Steps.{IsDraw};
 ghost use Rattle.stripe_dir.specs.AnswerTokens.{token_drawn, token_or_pass};
 ghost use Rattle.stripe_dir.specs.AnswerStamps.{stamps_given, AreDrawn};
 
-use crate::answers::Drawn;
 use crate::directory::Directory;
+use crate::directory_answers::Drawn;
 use crate::tokens::Pass;
 use dir_parts::{CallKind, OpenPass};
 use std::alloc::{AllocError, Global};

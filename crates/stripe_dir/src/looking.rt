@@ -18,8 +18,8 @@ ghost use Rattle.stripe_stamps.specs.ItsStripes.{IsWhole};
 ghost use Rattle.stripe_stamps.specs.Stripes.{pin_by, AreThere, AreTold};
 ghost use Rattle.dir_parts.specs.Begun.{begun_in, begun_pass, deleted, seen_in_object};
 
-use crate::answers::Look;
 use crate::directory::Directory;
+use crate::directory_answers::Look;
 use crate::tokens::Seat;
 use call_steps::Seen;
 use dir_parts::{CallNote, DirectoryReply, Event, Objects, OpenPass, add_look, make_room};

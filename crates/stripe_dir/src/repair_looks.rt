@@ -9,8 +9,8 @@ ghost use Rattle.stripe_dir.specs.Shown.{repair_note};
 ghost use Rattle.stripe_dir.specs.Steps.{IsRepairLook, RepairLookLeaves};
 ghost use Rattle.stripe_dir.specs.AnswerStamps.{IsSeenByRepair};
 
-use crate::answers::RepairLook;
 use crate::directory::Directory;
+use crate::directory_answers::RepairLook;
 use crate::looking::Begun;
 use crate::tokens::{Pass, Seat};
 use dir_parts::{CallKind, CallNote, Objects};

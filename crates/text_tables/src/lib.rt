@@ -3,6 +3,6 @@
 #![tactic(auto)]
 
 pub mod counting;
-pub mod faults;
-pub mod lines;
-pub mod scripts;
+pub mod fault_tables;
+pub mod table_lines;
+pub mod table_scripts;

@@ -7,8 +7,8 @@ use Rattle.call_steps.specs.declared.answer.DirectoryAnswer.TheVariants as there
 use Rattle.call_steps.specs.declared.answer.ServerAnswer.{ServerAnswer}
 use Rattle.call_steps.specs.declared.answer.ServerAnswer.TheVariants as here
 use Rattle.store_map.specs.Triples.{placement_text, found_text}
-use Rattle.call_steps.specs.declared.step.StepAnswer.{StepAnswer}
-use Rattle.call_steps.specs.declared.step.StepAnswer.TheVariants as answer
+use Rattle.call_steps.specs.declared.step_made.StepAnswer.{StepAnswer}
+use Rattle.call_steps.specs.declared.step_made.StepAnswer.TheVariants as answer
 
 -- REPLY: the first word of a transcript's, and a length with its number
 abbrev pub reply_kind_text : ReplyKind → List ℕ

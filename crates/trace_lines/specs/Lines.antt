@@ -1,7 +1,7 @@
 -- The line of a step, and those of all steps of a run.
 use Rattle.std.specs.Prelude.{ℕ, List, ◌++◌, codes, decimal}
 use Rattle.std.specs.List.{flat_map, enumerate_from}
-use Rattle.call_steps.specs.declared.step.Step.{Step}
+use Rattle.call_steps.specs.declared.step_made.Step.{Step}
 use Rattle.trace_lines.specs.Words.{caller_text, shortage_text, act_text}
 use Rattle.trace_lines.specs.Answers.{answer_text}
 

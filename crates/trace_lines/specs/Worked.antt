@@ -9,8 +9,8 @@ use Rattle.call_steps.specs.declared.act.ServerAct.TheVariants as told
 use Rattle.call_steps.specs.declared.answer.ReplyKind.TheVariants as reply
 use Rattle.call_steps.specs.declared.answer.DirectoryAnswer.TheVariants as there
 use Rattle.call_steps.specs.declared.answer.ServerAnswer.TheVariants as here
-use Rattle.call_steps.specs.declared.step.StepAnswer.TheVariants as answer
-use Rattle.call_steps.specs.declared.step.Step.{Step}
+use Rattle.call_steps.specs.declared.step_made.StepAnswer.TheVariants as answer
+use Rattle.call_steps.specs.declared.step_made.Step.{Step}
 
 -- client 0 puts an object of one stripe on two servers, the second of which is away
 abbrev pub a_put : List Step

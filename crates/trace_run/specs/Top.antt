@@ -4,7 +4,7 @@ use Rattle.store_map.specs.declared.script.Script.{Script}
 use Rattle.script_text.specs.FirstFault.{Spelled}
 use Rattle.transcript_text.specs.Text.{text_of}
 use Rattle.store_map.specs.declared.transcript.Transcript.{Transcript}
-use Rattle.call_steps.specs.declared.step.Step.{Step}
+use Rattle.call_steps.specs.declared.step_made.Step.{Step}
 use Rattle.store_world.specs.Traced.{IsTracedRun}
 use Rattle.trace_lines.specs.Lines.{lines_of}
 use Rattle.clay_cli.specs.Play.{IsFaulty}

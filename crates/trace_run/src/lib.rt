@@ -1,10 +1,10 @@
 //! A run of a script with each step that it makes, and the program that prints both.
 #![tactic(auto)]
 
-mod program;
-mod script_run;
-mod top;
+mod trace_program;
+mod trace_top;
+mod traced_run;
 
-pub use program::{run, serve};
-pub use script_run::{TracedRun, trace};
-pub use top::trace_main;
+pub use trace_program::{run, serve};
+pub use trace_top::trace_main;
+pub use traced_run::{TracedRun, trace};

@@ -4,10 +4,10 @@ use Rattle.std.specs.Prelude.{◌⊎◌}
 use Rattle.std.specs.List.{flat_map}
 use Rattle.std.proofs.lemmas.Bool.{cases_eq}
 use Rattle.line_grammar.specs.Lines.{Lacks}
-use Rattle.line_grammar.specs.declared.fault.FaultKind.{FaultKind}
-use Rattle.line_grammar.specs.declared.fault.FaultKind.TheVariants as fault
+use Rattle.line_grammar.specs.declared.line_fault.FaultKind.{FaultKind}
+use Rattle.line_grammar.specs.declared.line_fault.FaultKind.TheVariants as fault
 use Rattle.script_text.specs.FirstFault.{OrMemory}
-use Rattle.script_text.specs.declared.fault.ScriptFault.{ScriptFault}
+use Rattle.script_text.specs.declared.script_fault.ScriptFault.{ScriptFault}
 use Rattle.transcript_text.specs.Text.{text_of}
 use Rattle.store_map.specs.declared.transcript.Transcript.{Transcript}
 use Rattle.transcript_read.specs.Bodies.{line_body, line_text}
@@ -16,10 +16,10 @@ use Rattle.transcript_read.specs.Forms.{IsLine}
 use Rattle.transcript_read.specs.Order.{Follows, place_of}
 use Rattle.transcript_read.specs.Reader.{empty, with_line, IsTaken}
 use Rattle.transcript_read.specs.WellFormed.{IsWellFormed}
-use Rattle.transcript_read.specs.declared.line.Line.{Line}
-use Rattle.transcript_read.specs.declared.place.TranscriptPlace.{TranscriptPlace}
-use Rattle.transcript_read.specs.declared.place.TranscriptPlace.TheVariants as at
-use Rattle.transcript_read.specs.declared.reader.Reader.{Reader}
+use Rattle.transcript_read.specs.declared.transcript_line.Line.{Line}
+use Rattle.transcript_read.specs.declared.transcript_place.TranscriptPlace.{TranscriptPlace}
+use Rattle.transcript_read.specs.declared.transcript_place.TranscriptPlace.TheVariants as at
+use Rattle.transcript_read.specs.declared.transcript_reader.Reader.{Reader}
 use Rattle.transcript_read.proofs.OrderLaws.{few_lines}
 use Rattle.transcript_read.proofs.OrderedListLaws.{lines_within}
 use Rattle.transcript_read.proofs.ReadLaws.{IsReadTo, read_none, read_more, line_missing, line_refused, tail_fault, read_form, read_text}

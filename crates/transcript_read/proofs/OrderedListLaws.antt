@@ -13,10 +13,10 @@ use Rattle.store_map.specs.declared.transcript.Transcript.{Transcript}
 use Rattle.transcript_read.specs.ListLaws.{HasOrderedLists}
 use Rattle.transcript_read.specs.Order.{servers_at, place_of, IsBefore}
 use Rattle.transcript_read.specs.WellFormed.{AreInOrder, place_after, IsWellFormed, lines_of}
-use Rattle.transcript_read.specs.declared.line.Line.{Line}
-use Rattle.transcript_read.specs.declared.line.Line.TheVariants.{History, Refused, Repair, Unanswered, Object, Takes, Server, End}
-use Rattle.transcript_read.specs.declared.place.TranscriptPlace.{TranscriptPlace}
-use Rattle.transcript_read.specs.declared.place.TranscriptPlace.TheVariants as at
+use Rattle.transcript_read.specs.declared.transcript_line.Line.{Line}
+use Rattle.transcript_read.specs.declared.transcript_line.Line.TheVariants.{History, Refused, Repair, Unanswered, Object, Takes, Server, End}
+use Rattle.transcript_read.specs.declared.transcript_place.TranscriptPlace.{TranscriptPlace}
+use Rattle.transcript_read.specs.declared.transcript_place.TranscriptPlace.TheVariants as at
 use Rattle.transcript_read.proofs.OrderLaws.{few_lines, whole_text}
 
 no_pairs : {X : Type 0} (R : X → X → Type 0) → AllPairs R []

@@ -6,8 +6,8 @@ use Rattle.std.proofs.Common.{◌≡◌, ◌≢◌, ℕ, ◌+◌, ◌≤◌, Lis
 use Rattle.std.specs.List.{flat_map}
 use Rattle.script_text.specs.FirstFault.{OrMemory}
 use Rattle.line_grammar.specs.Lines.{Lacks}
-use Rattle.line_grammar.specs.declared.fault.FaultKind.TheVariants as fault
-use Rattle.script_text.specs.declared.fault.ScriptFault.{ScriptFault}
+use Rattle.line_grammar.specs.declared.line_fault.FaultKind.TheVariants as fault
+use Rattle.script_text.specs.declared.script_fault.ScriptFault.{ScriptFault}
 use Rattle.transcript_text.specs.Text.{text_of}
 use Rattle.transcript_read.specs.Bodies.{line_text}
 use Rattle.transcript_read.specs.Fault.{IsNoLine, RestFault, IsFault}
@@ -15,10 +15,10 @@ use Rattle.transcript_read.specs.Order.{Follows}
 use Rattle.transcript_read.specs.WellFormed.{AreInOrder, place_after, IsWellFormed}
 use Rattle.transcript_read.specs.Forms.{IsLine}
 use Rattle.transcript_read.specs.Reader.{empty, IsTaken}
-use Rattle.transcript_read.specs.declared.line.Line.{Line}
-use Rattle.transcript_read.specs.declared.place.TranscriptPlace.{TranscriptPlace}
-use Rattle.transcript_read.specs.declared.place.TranscriptPlace.TheVariants as at
-use Rattle.transcript_read.specs.declared.reader.Reader.{Reader}
+use Rattle.transcript_read.specs.declared.transcript_line.Line.{Line}
+use Rattle.transcript_read.specs.declared.transcript_place.TranscriptPlace.{TranscriptPlace}
+use Rattle.transcript_read.specs.declared.transcript_place.TranscriptPlace.TheVariants as at
+use Rattle.transcript_read.specs.declared.transcript_reader.Reader.{Reader}
 use Rattle.transcript_read.proofs.OrderLaws.{so_far, IsUpTo, up_to_more, so_far_more, in_order_more, place_after_more, text_more, few_lines, whole_text, unended_rank}
 
 -- the reader has read the bytes up to the rest, so many lines

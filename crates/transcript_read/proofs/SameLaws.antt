@@ -32,8 +32,8 @@ use Rattle.transcript_read.specs.Bodies.{line_body}
 use Rattle.transcript_read.specs.Forms.{IsLine}
 use Rattle.transcript_read.specs.Values.{IsLong, IsPlacement, IsFound, IsTriple, IsShown}
 use Rattle.transcript_read.specs.Reasons.{IsPair, pair_text, IsLost, lost_text, IsPairs, pairs_text, IsCause, IsResult}
-use Rattle.transcript_read.specs.declared.line.Line.{Line}
-use Rattle.transcript_read.specs.declared.line.Line.TheVariants.{History, Refused, Repair, Unanswered, Object, Takes, Server, End}
+use Rattle.transcript_read.specs.declared.transcript_line.Line.{Line}
+use Rattle.transcript_read.specs.declared.transcript_line.Line.TheVariants.{History, Refused, Repair, Unanswered, Object, Takes, Server, End}
 use Rattle.transcript_read.proofs.ListLaws.{listed, listed_injective, same_words, Starts-listed}
 use Rattle.transcript_read.proofs.PartLaws.{clash, not_letter, long_lacks, short_lacks, client_lacks, repair_lacks, call_lacks, placement_lacks, triple_lacks, pair_lacks, triple_parts, two_parts, tails, same_long, same_longs, same_client, same_repair, same_call}
 

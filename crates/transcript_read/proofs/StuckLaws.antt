@@ -4,7 +4,7 @@ use Rattle.std.specs.Prelude.{map}
 use Rattle.std.specs.List.{flat_map}
 use Rattle.std.proofs.lemmas.Grind.{flat_map-append}
 use Rattle.line_grammar.specs.Lines.{Lacks}
-use Rattle.line_grammar.specs.declared.fault.FaultKind.{FaultKind}
+use Rattle.line_grammar.specs.declared.line_fault.FaultKind.{FaultKind}
 use Rattle.line_grammar.proofs.LineLaws.{same_parts, never_parted}
 use Rattle.transcript_text.specs.Text.{text_of}
 use Rattle.store_map.specs.declared.line.HLine.{HLine}
@@ -20,10 +20,10 @@ use Rattle.transcript_read.specs.Fault.{RestFault, IsFault}
 use Rattle.transcript_read.specs.Forms.{IsLine}
 use Rattle.transcript_read.specs.Order.{Follows, place_of, rank}
 use Rattle.transcript_read.specs.WellFormed.{AreInOrder, place_after, IsWellFormed, kinds_of, lines_of}
-use Rattle.transcript_read.specs.declared.line.Line.{Line}
-use Rattle.transcript_read.specs.declared.line.Line.TheVariants.{History, Refused, Repair, Unanswered, Object, Takes, Server, End}
-use Rattle.transcript_read.specs.declared.place.TranscriptPlace.{TranscriptPlace}
-use Rattle.transcript_read.specs.declared.place.TranscriptPlace.TheVariants as at
+use Rattle.transcript_read.specs.declared.transcript_line.Line.{Line}
+use Rattle.transcript_read.specs.declared.transcript_line.Line.TheVariants.{History, Refused, Repair, Unanswered, Object, Takes, Server, End}
+use Rattle.transcript_read.specs.declared.transcript_place.TranscriptPlace.{TranscriptPlace}
+use Rattle.transcript_read.specs.declared.transcript_place.TranscriptPlace.TheVariants as at
 use Rattle.transcript_read.proofs.OrderLaws.{line_whole, follows_rank, place_after_more, whole_text}
 use Rattle.transcript_read.proofs.SameLaws.{same_line, line_feed}
 

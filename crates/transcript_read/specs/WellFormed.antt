@@ -2,10 +2,10 @@
 use Rattle.std.specs.Prelude.{ℕ, List, [], ◌∷◌, ◌++◌, map, ⊤}
 use Rattle.store_map.specs.declared.transcript.Transcript.{Transcript}
 use Rattle.transcript_read.specs.Forms.{IsLine}
-use Rattle.transcript_read.specs.declared.line.Line.{Line}
-use Rattle.transcript_read.specs.declared.line.Line.TheVariants.{History, Refused, Repair, Unanswered, Object, Takes, Server, End}
-use Rattle.transcript_read.specs.declared.place.TranscriptPlace.{TranscriptPlace}
-use Rattle.transcript_read.specs.declared.place.TranscriptPlace.TheVariants as at
+use Rattle.transcript_read.specs.declared.transcript_line.Line.{Line}
+use Rattle.transcript_read.specs.declared.transcript_line.Line.TheVariants.{History, Refused, Repair, Unanswered, Object, Takes, Server, End}
+use Rattle.transcript_read.specs.declared.transcript_place.TranscriptPlace.{TranscriptPlace}
+use Rattle.transcript_read.specs.declared.transcript_place.TranscriptPlace.TheVariants as at
 use Rattle.transcript_read.specs.Order.{place_of, Follows}
 
 -- each of these lines has its form, and may stand behind the line before it

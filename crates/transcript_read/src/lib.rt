@@ -2,17 +2,17 @@
 #![tactic(auto)]
 
 mod field;
-pub mod laws;
-mod line;
+pub mod laws_of_transcripts;
 mod list;
-mod number;
-mod outcome;
-mod place;
-mod reader;
-mod reply;
+mod number_field;
+mod outcome_field;
+mod reply_field;
 mod rest;
-mod transcript;
+mod transcript_line;
+mod transcript_place;
+mod transcript_reader;
+mod transcript_reading;
 mod triple;
 
 pub use rest::TextRest;
-pub use transcript::{read_transcript, take_transcript};
+pub use transcript_reading::{read_transcript, take_transcript};

@@ -2,13 +2,13 @@
 //! in which all of it is written.
 #![tactic(auto)]
 
-mod digits;
-mod worked;
-mod write;
+mod digit_pieces;
+mod transcript_writing;
+mod worked_transcripts;
 
 pub use store_map::{
     CallName, Cause, GLine, HLine, LLine, OLine, RLine, RepairResult, Shown, TLine, Transcript,
     Triple, XLine,
 };
-pub use worked::worked_texts;
-pub use write::{append, append_reply, append_shown, write_transcript};
+pub use transcript_writing::{append, append_reply, append_shown, write_transcript};
+pub use worked_transcripts::worked_texts;

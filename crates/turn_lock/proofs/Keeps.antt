@@ -11,7 +11,7 @@ use lib.Seq.{set-get_or}
 use prog.Atomic.{either}
 use Rattle.atomic_table.specs.Table.{State, Act, step, keeps, takes, gives, Valid, carried_after, stepped, opening, Allows, Splits, Joins}
 use Rattle.atomic_table.proofs.Lists.{at_set, set_here, set_again, at_snoc, at_last, at_longer, exchanged}
-use Rattle.turn_lock.specs.declared.view.View.{View}
+use Rattle.turn_lock.specs.declared.lock_view.View.{View}
 use Rattle.turn_lock.specs.History.{Among, entries_of, with_entry, IsUnder}
 use Rattle.std.proofs.lemmas.List.{append-nil}
 use Rattle.turn_lock.specs.Rule.{all_numbers, Fits, SomeHolds, IsNamed, IsHome, Kept}

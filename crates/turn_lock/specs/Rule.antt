@@ -5,7 +5,7 @@ use mathlib.Core.List.{IsPrefix}
 use mathlib.Core.Option.{some}
 use lib.ListN.{get_elem?}
 use Rattle.atomic_table.specs.Table.{State}
-use Rattle.turn_lock.specs.declared.view.View.{View}
+use Rattle.turn_lock.specs.declared.lock_view.View.{View}
 use Rattle.turn_lock.specs.History.{Among, entries_of, SameEntries}
 
 module _ {F E : Type 0} where

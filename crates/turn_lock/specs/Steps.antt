@@ -2,7 +2,7 @@
 use Rattle.std.specs.Prelude.{◌≡◌, ◌≢◌, ℕ, ◌+◌, Bool, true, false, List, [], ◌∷◌, ◌++◌, Option, None, Some}
 use Rattle.atomic_table.specs.Table.{Me, Step, rest}
 use Rattle.atomic_table.specs.declared.shared.Seat.{Seat}
-use Rattle.turn_lock.specs.declared.view.View.{View}
+use Rattle.turn_lock.specs.declared.lock_view.View.{View}
 use Rattle.turn_lock.specs.History.{with_entry, SameEntries, GoesOn, IsLonger}
 
 module _ {F E : Type 0} where

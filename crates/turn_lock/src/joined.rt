@@ -2,8 +2,8 @@
 ghost use Rattle.std.specs.Prelude.{◌≡◌, ◌<◌, ◌∷◌, ◌++◌, [], ℕ, List, vec_len};
 ghost use Rattle.turn_lock.specs.Joined.{AreAll, IsJoined, IsWhole};
 
-use crate::history::Historied;
 use crate::lock::{Lock, Turn};
+use crate::lock_history::Historied;
 use std::sync::Wait;
 
 /// The last of some values.

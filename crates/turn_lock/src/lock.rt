@@ -5,9 +5,9 @@ ghost use Rattle.turn_lock.specs.History.{Among, IsUnder, GoesOn, SameEntries, I
 ghost use Rattle.turn_lock.specs.TurnState.{TurnState, new_turn};
 ghost use Rattle.turn_lock.specs.Steps.{IsSameSeat, maker_view, joined_view, settled_view, with_seen};
 
-use crate::history::{Added, Historied};
+use crate::lock_history::{Added, Historied};
+use crate::lock_view::View;
 use crate::rule::{Both, Make, PassOn, Rule, Settle, Try};
-use crate::view::View;
 use atomic_table::{Refused, Seat, Table};
 use std::alloc::{AllocError, Global};
 use std::marker::{Brand, Model};

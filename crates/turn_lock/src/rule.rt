@@ -2,8 +2,8 @@
 ghost use Rattle.turn_lock.specs.Rule.{Kept};
 ghost use Rattle.turn_lock.specs.Steps.{maker_view, maker_after, turn_view, joined_view, spent_view, Tries, PassesOn, Settles};
 
-use crate::history::{Added, Historied};
-use crate::view::View;
+use crate::lock_history::{Added, Historied};
+use crate::lock_view::View;
 use atomic_table::{Join, Play, Split, TableRule};
 use std::marker::PhantomData;
 use std::snapshot::Snapshot;

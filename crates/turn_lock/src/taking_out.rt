@@ -5,9 +5,9 @@ ghost use Rattle.turn_lock.specs.Joined.{AreAll, IsWhole};
 ghost use Rattle.turn_lock.specs.Out.{AreOut, AreRows};
 ghost use Rattle.turn_lock.specs.Piles.{items_of};
 
-use crate::history::Historied;
 use crate::joined::take_out;
 use crate::lock::{Lock, Turn};
+use crate::lock_history::Historied;
 use crate::piles::take_tops;
 use std::alloc::{AllocError, Global};
 use std::sync::Wait;

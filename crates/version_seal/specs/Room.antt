@@ -1,8 +1,8 @@
 -- Room for versions in a book, and what a version that has an entry is answered.
 use Rattle.std.specs.Prelude.{◌≡◌, ℕ, ◌+◌, ◌-◌, ◌*◌, ◌<◌, ◌≤◌, ⊤, List, length}
 use Rattle.version_seal.specs.Entry.{BookOf}
-use Rattle.version_seal.specs.declared.room.SealError.{SealError}
-use Rattle.version_seal.specs.declared.room.SealError.TheVariants as seal_error
+use Rattle.version_seal.specs.declared.book_room.SealError.{SealError}
+use Rattle.version_seal.specs.declared.book_room.SealError.TheVariants as seal_error
 
 -- how many versions a book can have: 4,096 for each of its slots but the first
 abbrev pub room_of : BookOf → ℕ

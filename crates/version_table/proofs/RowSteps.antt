@@ -14,7 +14,7 @@ use Rattle.version_table.specs.Rows.{Kept, kept_in, kept_of, kept_at, is_unswept
 use Rattle.version_table.specs.RowSteps.{is_taken, is_taken_in, kept_standing, kept_current, kept_unpinned, kept_pinned, kept_anew, Alters, Adds, Sweeps}
 use Rattle.version_table.specs.declared.told_versions.Standing.{Standing}
 use Rattle.version_table.specs.declared.told_versions.Standing.TheVariants as standing
-use Rattle.version_table.specs.declared.rows.VersionRow.{VersionRow}
+use Rattle.version_table.specs.declared.version_rows.VersionRow.{VersionRow}
 use Rattle.version_table.proofs.Changes.{change_here, change_none, change_at-none, slice_get-change_at, length-change_at}
 
 -- ---- counts

@@ -10,7 +10,7 @@ use Rattle.version_table.specs.Told.{Entry}
 use Rattle.version_table.specs.Rows.{Kept, kept_in, is_superseded, is_garbage}
 use Rattle.version_table.specs.declared.told_versions.Standing.{Standing}
 use Rattle.version_table.specs.declared.told_versions.Standing.TheVariants as standing
-use Rattle.version_table.specs.declared.rows.VersionRow.{VersionRow}
+use Rattle.version_table.specs.declared.version_rows.VersionRow.{VersionRow}
 
 -- what the sweeper may take, and what it took
 abbrev pub is_free : Kept → Bool

@@ -7,8 +7,8 @@ use Rattle.store_map.specs.declared.placement.Placement.{Placement}
 use Rattle.version_table.specs.Told.{Entry}
 use Rattle.version_table.specs.declared.told_versions.Standing.{Standing}
 use Rattle.version_table.specs.declared.told_versions.Standing.TheVariants as standing
-use Rattle.version_table.specs.declared.rows.VersionRow.{VersionRow}
-use Rattle.version_table.specs.declared.rows.Rows.TheInside.{Inside}
+use Rattle.version_table.specs.declared.version_rows.VersionRow.{VersionRow}
+use Rattle.version_table.specs.declared.version_rows.Rows.TheInside.{Inside}
 
 -- what is told of every version, and how many more fit without memory
 pub record RowsOf : Type 0 where

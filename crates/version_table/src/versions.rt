@@ -12,8 +12,8 @@ ghost use Rattle.version_table.specs.Table.{number_in, least_first};
 ghost use Rattle.version_table.specs.TableSteps.{version_standing, version_current, version_swept, drawn_versions, IsUnreplaced, IsThereUnreplaced, first_free, taken_from, placed_anew_at, placed_anew_by};
 ghost use Rattle.version_table.specs.Known.{is_known, IsKnown};
 
-use crate::rows::Rows;
 use crate::told_versions::Standing;
+use crate::version_rows::Rows;
 use dir_parts::Pinned;
 use std::alloc::{AllocError, Global};
 use std::cmp::Reverse;

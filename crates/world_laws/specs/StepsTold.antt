@@ -4,9 +4,9 @@ use Rattle.store_core.specs.Told.{Told}
 use Rattle.history_laws.specs.Trace.{Made}
 use Rattle.call_steps.specs.Acts.{act_by}
 use Rattle.call_steps.specs.Answers.{directory_answer, server_told}
-use Rattle.call_steps.specs.declared.step.StepAnswer.{StepAnswer}
-use Rattle.call_steps.specs.declared.step.StepAnswer.TheVariants as answer
-use Rattle.call_steps.specs.declared.step.Step.{Step}
+use Rattle.call_steps.specs.declared.step_made.StepAnswer.{StepAnswer}
+use Rattle.call_steps.specs.declared.step_made.StepAnswer.TheVariants as answer
+use Rattle.call_steps.specs.declared.step_made.Step.{Step}
 
 -- an answer is this one, without the lists that it has
 abbrev pub IsAnswer : StepAnswer → Told → Type 0

@@ -2,19 +2,19 @@
 #![tactic(auto)]
 
 mod causes;
-mod history;
-pub mod laws;
+pub mod laws_of_lines;
+mod lines_of_history;
+mod lines_of_takes;
 mod refused;
 mod role;
 mod served;
 mod stored;
-mod takes;
-mod transcript;
 mod unanswered;
+mod world_transcript;
 
-pub use history::history_lines;
+pub use lines_of_history::history_lines;
+pub use lines_of_takes::take_lines;
 pub use refused::{refused_lines, repair_lines};
 pub use stored::{object_lines, server_lines};
-pub use takes::take_lines;
-pub use transcript::make_transcript;
 pub use unanswered::unanswered_lines;
+pub use world_transcript::make_transcript;

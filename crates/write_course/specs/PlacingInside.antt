@@ -6,7 +6,7 @@ use Rattle.clay_model.specs.Chunks.{contents}
 use Rattle.store_core.specs.Placements.{skipped_from}
 use Rattle.store_core.specs.Told.{lost_in}
 use Rattle.write_course.specs.Chunks.{PlacingOf, AreChunksFrom}
-use Rattle.write_course.specs.declared.placing.Placing.TheInside.{Inside}
+use Rattle.write_course.specs.declared.course_placing.Placing.TheInside.{Inside}
 
 -- what callers see
 abbrev pub placing_in : Inside → PlacingOf

@@ -2,9 +2,9 @@
 //! the versions are committed, and their chunks are settled.
 #![tactic(auto)]
 
-mod call;
-pub mod laws;
-mod placing;
+mod course_call;
+mod course_placing;
+pub mod laws_of_courses;
 mod writing;
 mod writing_stage;
 

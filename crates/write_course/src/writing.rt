@@ -15,7 +15,7 @@ ghost use Rattle.write_course.specs.Writings.{versions_of, server_of, question_o
 ghost use Rattle.write_course.specs.Writings.{begins_version, place_of, stamp_at_work, point_of};
 ghost use Rattle.write_course.specs.WritingSteps.{stepped, told_at, IsDoing};
 
-use crate::placing::Placing;
+use crate::course_placing::Placing;
 use crate::writing_stage::{WritingStage, prepares_or_commits, settles_or_is_done};
 use call_steps::{ServerAct, ServerAnswer};
 use chunk_server::Server;

@@ -1,10 +1,10 @@
 use Rattle.std.proofs.Common.{inr, refl, subst, Some}
 use Rattle.clay_words.specs.Spelled.{HoldsNumbers, rows_held}
 use Rattle.clay_words.specs.Words.{IsAskedBy}
-use Rattle.clay_words.specs.declared.words.Command.TheVariants.{OfInput}
-use Rattle.clay_words.specs.declared.words.Task.TheVariants as task
-use Rattle.clay_words.specs.declared.names.Name.{Name}
-use Rattle.clay_words.specs.declared.names.Name.TheVariants.{Play, Verify}
+use Rattle.clay_words.specs.declared.numbers_of_words.Command.TheVariants.{OfInput}
+use Rattle.clay_words.specs.declared.numbers_of_words.Task.TheVariants as task
+use Rattle.clay_words.specs.declared.word_names.Name.{Name}
+use Rattle.clay_words.specs.declared.word_names.Name.TheVariants.{Play, Verify}
 use Rattle.clay_words.proofs.Held.{by_numbers}
 use Rattle.clay_words.proofs.parse.command_held.Goals as goal
 

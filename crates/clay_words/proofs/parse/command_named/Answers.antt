@@ -1,6 +1,6 @@
 use Rattle.std.proofs.Common.{subst}
 use Rattle.clay_words.specs.Spelled.{HoldsNumbers, rows_held}
-use Rattle.clay_words.specs.declared.names.Name.{Name}
+use Rattle.clay_words.specs.declared.word_names.Name.{Name}
 use Rattle.clay_words.proofs.NameLaws.{same_name}
 use Rattle.clay_words.proofs.parse.command_named.Goals as goal
 

@@ -1,9 +1,9 @@
 use Rattle.std.proofs.Common.{ℕ, ◌∷◌, [], List, sym, subst, ◌∙◌, Some, codes}
 use Rattle.clap.specs.Words.{found_of}
 use Rattle.clay_words.specs.Words.{IsAskedBy, AreAloofWords}
-use Rattle.clay_words.specs.declared.words.Command.TheVariants.{OfInput}
-use Rattle.clay_words.specs.declared.words.Task.TheVariants as task
-use Rattle.clay_words.specs.declared.names.Name.TheVariants.{AloofRepair}
+use Rattle.clay_words.specs.declared.numbers_of_words.Command.TheVariants.{OfInput}
+use Rattle.clay_words.specs.declared.numbers_of_words.Task.TheVariants as task
+use Rattle.clay_words.specs.declared.word_names.Name.TheVariants.{AloofRepair}
 use Rattle.clay_words.proofs.Held.{by_numbers, in_rows, not_both, same_value}
 use Rattle.clay_words.proofs.OneCommand.{asks_aloof, no_aloof_repair, no_such_chunk}
 use Rattle.clay_words.proofs.parse.repair_held.Goals as goal

@@ -1,8 +1,8 @@
 use Rattle.std.proofs.Common.{◌∷◌, [], sym, subst, Some, codes, ap}
 use Rattle.clay_words.specs.Words.{IsAskedBy}
-use Rattle.clay_words.specs.declared.words.Command.TheVariants.{OfInput}
-use Rattle.clay_words.specs.declared.words.Task.TheVariants as task
-use Rattle.clay_words.specs.declared.names.Name.TheVariants.{Run}
+use Rattle.clay_words.specs.declared.numbers_of_words.Command.TheVariants.{OfInput}
+use Rattle.clay_words.specs.declared.numbers_of_words.Task.TheVariants as task
+use Rattle.clay_words.specs.declared.word_names.Name.TheVariants.{Run}
 use Rattle.clay_words.proofs.Held.{by_numbers}
 use Rattle.clay_words.proofs.OneCommand.{no_run}
 use Rattle.clay_words.proofs.parse.run_held.Goals as goal

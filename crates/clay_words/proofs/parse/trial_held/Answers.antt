@@ -1,7 +1,7 @@
 use Rattle.std.proofs.Common.{◌∷◌, [], sym, subst, Some, codes, decimal, ◌≡◌}
 use Rattle.clay_words.specs.Words.{IsAskedBy}
-use Rattle.clay_words.specs.declared.words.Command.TheVariants as command
-use Rattle.clay_words.specs.declared.names.Name.TheVariants.{Trial}
+use Rattle.clay_words.specs.declared.numbers_of_words.Command.TheVariants as command
+use Rattle.clay_words.specs.declared.word_names.Name.TheVariants.{Trial}
 use Rattle.clay_words.proofs.Held.{by_numbers}
 use Rattle.clay_words.proofs.OneCommand.{no_trial_size, no_trial_start, no_trial_workers}
 use Rattle.clay_words.proofs.parse.trial_held.Goals as goal

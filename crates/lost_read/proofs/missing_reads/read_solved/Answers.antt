@@ -1,7 +1,7 @@
 use Rattle.std.proofs.Common.{ℕ, List, Bor, map, length, sym, refl, subst, ap, inl, inr, ◌∙◌}
 use Rattle.lost_layers.specs.ErasedRuns.{solved_of}
 use Rattle.lost_layers.specs.declared.missing_fault.MissingFault.TheVariants.{OutOfMemory}
-use Rattle.lost_read.specs.declared.missing_fault.MissingReadFault.TheVariants.{Run}
+use Rattle.lost_read.specs.declared.missing_read_fault.MissingReadFault.TheVariants.{Run}
 use Rattle.lost_read.specs.MissingRead.{FitRun}
 use Rattle.lost_read.specs.MissingRefused.{IsMisfit, IsUnread}
 use Rattle.lost_read.proofs.MissingReadLaws.{handed_on}

@@ -2,7 +2,7 @@ use Rattle.std.proofs.Common.{ℕ, List, Bor, map, length, refl, sym, subst}
 use Rattle.std.proofs.lemmas.Bool.{true≢false}
 use Rattle.lost_layers.specs.Without.{missing_pieces_of}
 use Rattle.lost_read.specs.MissingRead.{IsReadFrom, FitRun}
-use Rattle.lost_read.specs.declared.missing_fault.MissingReadFault.TheVariants.{PieceCount, PieceLength, Room}
+use Rattle.lost_read.specs.declared.missing_read_fault.MissingReadFault.TheVariants.{PieceCount, PieceLength, Room}
 use Rattle.lost_read.specs.There.{pieces_with, ReadsWithout}
 use Rattle.lost_read.proofs.Marked.{refused_by}
 use Rattle.lost_read.proofs.there.read_without.Goals as goal

@@ -1,7 +1,7 @@
 use Rattle.std.proofs.Common.{rules, ◌≡◌, ℕ, [], ◌∷◌, ◌++◌, length, subst, refl, IfSome, slice_get}
 use Rattle.std.proofs.lemmas.List.Elements.{All-push}
 use Rattle.turn_lock.specs.TurnState.{TurnState, new_turn}
-use Rattle.run_tests.specs.declared.workers.Worker.{Worker}
+use Rattle.run_tests.specs.declared.worker_tests.Worker.{Worker}
 use Rattle.run_tests.specs.Workers.{IsReady}
 use Rattle.run_tests.proofs.Hiring.{without_last, at_last, new_is_ready}
 use Rattle.run_tests.proofs.working.hire.Goals as goal

@@ -1,5 +1,5 @@
 use Rattle.std.proofs.Common.{inr, refl}
-use Rattle.session_rules.specs.declared.answer.Answer.{Answer}
+use Rattle.session_rules.specs.declared.session_answer.Answer.{Answer}
 use Rattle.session_rules.specs.declared.request.Request.{Request}
 use Rattle.session_store.specs.Inside.{store_of}
 use Rattle.session_store.proofs.Opening.{none_read_of}

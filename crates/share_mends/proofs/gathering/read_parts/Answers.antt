@@ -4,7 +4,7 @@ use Rattle.share_format.specs.Mend.{block_ranges}
 use Rattle.share_files.specs.Seen.{seen}
 use Rattle.share_files.proofs.Faults.{handed_on}
 use Rattle.share_mends.specs.Gathered.{AreParts, ArePartsOf}
-use Rattle.share_mends.specs.declared.fault.MendFault.TheVariants.{ReadFault}
+use Rattle.share_mends.specs.declared.mend_fault.MendFault.TheVariants.{ReadFault}
 use Rattle.share_mends.proofs.AskedLemmas.{asked_more, no_read_fails, shown_asked, same_count, shows_new, shows_back, one_fails, none_fails}
 use Rattle.share_mends.proofs.GatherLemmas.{parts_more, of_more, good_of, names_first}
 use Rattle.share_mends.proofs.gathering.read_parts.Goals as goal

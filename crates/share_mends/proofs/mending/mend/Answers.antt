@@ -8,7 +8,7 @@ use Rattle.share_files.proofs.Faults.{handed_on, on_any_error}
 use Rattle.share_files.proofs.PutLemmas.{puts_nothing, puts_blocks, puts_head, puts_whole, puts_share}
 use Rattle.share_mends.specs.Asked.{AreAsked, OneReadFails}
 use Rattle.share_mends.specs.Mended.{HaveGood, NamesFirst, IsMended}
-use Rattle.share_mends.specs.declared.fault.MendFault.TheVariants.{ReadFault}
+use Rattle.share_mends.specs.declared.mend_fault.MendFault.TheVariants.{ReadFault}
 use Rattle.share_mends.proofs.MendLemmas.{first_ranges, moved}
 use Rattle.share_mends.proofs.mending.mend.Goals as goal
 

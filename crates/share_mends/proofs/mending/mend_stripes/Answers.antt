@@ -10,7 +10,7 @@ use Rattle.share_files.proofs.Faults.{handed_on}
 use Rattle.share_files.proofs.PutLemmas.{puts_none, puts_more, puts_some}
 use Rattle.share_mends.specs.Asked.{AreAsked}
 use Rattle.share_mends.specs.Mended.{HaveGood, IsMended}
-use Rattle.share_mends.specs.declared.fault.MendFault.TheVariants.{ReadFault, WriteFault}
+use Rattle.share_mends.specs.declared.mend_fault.MendFault.TheVariants.{ReadFault, WriteFault}
 use Rattle.share_mends.proofs.AskedLemmas.{asked_nothing, no_read_fails, fails_none, fails_one}
 use Rattle.share_mends.proofs.MendLemmas.{first_ranges, asked_stripe, good_more, names_stripe, later}
 use Rattle.share_mends.proofs.mending.mend_stripes.Goals as goal

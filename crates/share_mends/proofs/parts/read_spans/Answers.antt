@@ -1,5 +1,5 @@
 use Rattle.std.proofs.Common.{◌≡◌, ◌<◌, ◌≤◌, ◌+◌, ℕ, length, get_or, take, sym, ap, ◌∙◌, arith, rules}
-use Rattle.file_bytes.specs.declared.stream.ReadFault.TheVariants.{Failed, Ended}
+use Rattle.file_bytes.specs.declared.positions.ReadFault.TheVariants.{Failed, Ended}
 use Rattle.std.proofs.lemmas.Grind.{common_steps}
 use Rattle.share_files.proofs.Faults.{handed_on}
 use Rattle.share_mends.specs.Spans.{span_bytes}

@@ -11,7 +11,7 @@ use Rattle.call_steps.specs.TokenAfter.{token_after, MayMake}
 use Rattle.stripe_dir.specs.Answers.{told_look, told_or_short}
 use Rattle.stripe_stamps.specs.SeenStripes.{seen_in}
 use Rattle.stripe_dir.specs.Shown.{AreShown, stripes_seen}
-use Rattle.stripe_dir.specs.declared.answers.Look.{Look}
+use Rattle.stripe_dir.specs.declared.directory_answers.Look.{Look}
 use Rattle.snapshot_view.specs.Tickets.{pins_of, passes_in}
 use Rattle.snapshot_view.specs.LookSteps.{get_of, look_one, no_look, IsAsFound}
 use Rattle.snapshot_view.proofs.Gets.{may_look, get_found, get_same, get_look, get_pins, get_begun}

@@ -2,7 +2,7 @@ use Rattle.std.proofs.Common.{◌≡◌, ℕ, Bool, not, List, [], ◌∷◌, �
 use Rattle.std.specs.List.{range_with_len}
 use Rattle.std.proofs.lemmas.List.{map-append, length-map}
 use Rattle.store_core.specs.Directory.{Directory}
-use Rattle.session_rules.specs.declared.answer.LostChunk.{LostChunk as Lost}
+use Rattle.session_rules.specs.declared.session_answer.LostChunk.{LostChunk as Lost}
 use Rattle.session_rules.specs.Scrubs.{holds_version}
 use Rattle.chunk_server.specs.Core.{core_of}
 use Rattle.store_scrub.specs.Lost.{lost_in, places_with}

@@ -3,7 +3,7 @@ use Rattle.std.specs.List.{flat_map}
 use Rattle.std.proofs.lemmas.List.{take_all}
 use Rattle.std.proofs.lemmas.List.Folds.{flat_map-map}
 use Rattle.store_core.specs.Directory.{Object, Directory}
-use Rattle.session_rules.specs.declared.answer.LostChunk.{LostChunk as Lost}
+use Rattle.session_rules.specs.declared.session_answer.LostChunk.{LostChunk as Lost}
 use Rattle.session_rules.specs.Seen.{versions_under}
 use Rattle.session_rules.specs.Scrubs.{lost_of}
 use Rattle.dir_parts.specs.Parts.{Held, object_of}

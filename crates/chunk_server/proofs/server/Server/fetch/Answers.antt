@@ -9,7 +9,7 @@ use Rattle.chunk_server.specs.Valid.{IsOwn, IsGiven}
 use Rattle.chunk_server.specs.Steps.{chunk_given, taken_from}
 use Rattle.chunk_server.specs.Core.{core_of, told_given}
 use Rattle.chunk_server.specs.Chunks.{chunk_in, chunks_in, state_in}
-use Rattle.chunk_server.specs.declared.answers.Fetched.TheVariants.{Part, Missing}
+use Rattle.chunk_server.specs.declared.server_answers.Fetched.TheVariants.{Part, Missing}
 use Rattle.chunk_server.proofs.FoundChunks.{All-chunk_of}
 use Rattle.chunk_server.proofs.Entries.{is_held-lookup, chunk_of-lookup}
 use Rattle.chunk_server.proofs.CoreSteps.{core-fetch}

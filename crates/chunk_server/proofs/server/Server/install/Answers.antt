@@ -2,7 +2,7 @@ use Rattle.std.proofs.Common.{◌≡◌, false, ap, ◌∙◌, sym}
 use Rattle.chunk_server.specs.State.{ServerState, is_held}
 use Rattle.chunk_server.specs.Steps.{install_by}
 use Rattle.chunk_server.specs.Core.{core_of, told_added}
-use Rattle.chunk_server.specs.declared.answers.Installed.TheVariants.{Placed}
+use Rattle.chunk_server.specs.declared.server_answers.Installed.TheVariants.{Placed}
 use Rattle.chunk_server.proofs.CoreSteps.{core-install}
 use Rattle.chunk_server.proofs.server.Server.install.Goals as goal
 

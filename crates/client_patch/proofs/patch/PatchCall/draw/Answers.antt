@@ -11,7 +11,7 @@ use Rattle.call_steps.specs.declared.answer.DirectoryAnswer.TheVariants as there
 use Rattle.call_steps.specs.Answers.{directory_answer}
 use Rattle.call_steps.specs.TokenAfter.{token_after}
 use Rattle.stripe_dir.specs.AnswerStamps.{IfDrawn, AreDrawnFor, stamps_given}
-use Rattle.stripe_dir.specs.declared.answers.Drawn.TheVariants as draw
+use Rattle.stripe_dir.specs.declared.directory_answers.Drawn.TheVariants as draw
 use Rattle.write_course.specs.Writings.{versions_of}
 use Rattle.write_course.specs.Draws.{request_of}
 use Rattle.client_patch.specs.Patches.{PatchOf, is_write}

@@ -4,7 +4,7 @@ use Rattle.clay_grid.specs.Shape.{chunk_count}
 use Rattle.store_core.specs.Act.{DirectoryStep}
 use Rattle.run_laws.specs.States.{open_state}
 use Rattle.run_laws.specs.GatherAfter.{confirming_after}
-use Rattle.stripe_dir.specs.declared.answers.Confirmed.{Confirmed}
+use Rattle.stripe_dir.specs.declared.directory_answers.Confirmed.{Confirmed}
 use Rattle.stripe_dir.specs.Answers.{told_confirmed}
 use Rattle.call_steps.specs.declared.answer.DirectoryAnswer.TheVariants as there
 use Rattle.call_steps.specs.Answers.{directory_answer}

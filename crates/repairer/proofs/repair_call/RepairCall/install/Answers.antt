@@ -4,8 +4,8 @@ use Rattle.clay_grid.specs.Shape.{chunk_count}
 use Rattle.store_core.specs.Told.{Told}
 use Rattle.store_core.specs.Act.{ServerStep}
 use Rattle.store_core.specs.Server.{at_server}
-use Rattle.chunk_server.specs.declared.answers.Installed.{Installed}
-use Rattle.chunk_server.specs.declared.answers.Installed.TheVariants as installed
+use Rattle.chunk_server.specs.declared.server_answers.Installed.{Installed}
+use Rattle.chunk_server.specs.declared.server_answers.Installed.TheVariants as installed
 use Rattle.chunk_server.specs.Core.{core_of, told_installed}
 use Rattle.call_steps.specs.CallOf.{CallOf}
 use Rattle.call_steps.specs.Steps.{stepped_at_server}

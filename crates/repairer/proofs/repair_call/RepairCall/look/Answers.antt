@@ -5,8 +5,8 @@ use Rattle.clay_grid.specs.Shape.{chunk_count}
 use Rattle.store_core.specs.Note.{note_of_rebuild}
 use Rattle.store_core.specs.Act.{DirectoryStep}
 use Rattle.version_seal.specs.Entry.{BookOf}
-use Rattle.stripe_dir.specs.declared.answers.RepairLook.{RepairLook}
-use Rattle.stripe_dir.specs.declared.answers.RepairLook.TheVariants as repair
+use Rattle.stripe_dir.specs.declared.directory_answers.RepairLook.{RepairLook}
+use Rattle.stripe_dir.specs.declared.directory_answers.RepairLook.TheVariants as repair
 use Rattle.stripe_dir.specs.Answers.{told_or_short, told_repair_look}
 use Rattle.stripe_stamps.specs.SeenStripes.{seen_in}
 use Rattle.call_steps.specs.declared.answer.DirectoryAnswer.TheVariants as there

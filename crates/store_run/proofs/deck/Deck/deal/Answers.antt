@@ -1,5 +1,5 @@
 use Rattle.std.proofs.Common.{refl}
-use Rattle.run_seats.specs.declared.turns.Turns.{Turns}
+use Rattle.run_seats.specs.declared.seat_turns.Turns.{Turns}
 use Rattle.store_run.specs.declared.deck.Deck.{Deck}
 use Rattle.store_run.proofs.Dealing.{deal_of, deck_left, turns_new}
 use Rattle.store_run.proofs.deck.Deck.deal.Goals as goal

@@ -8,7 +8,7 @@ use Rattle.chunk_server.specs.State.{ServerState}
 use Rattle.world_laws.proofs.PlaceLaws.{operator_makes_actions}
 use Rattle.world_laws.specs.Goes.{Leads}
 use Rattle.world_laws.proofs.Places.{operator_tells}
-use Rattle.call_steps.specs.declared.step.Step.{Step}
+use Rattle.call_steps.specs.declared.step_made.Step.{Step}
 use Rattle.store_world.specs.Stored.{StoredWorld, world_of}
 use Rattle.store_world.specs.Telling.{LeadsTold}
 use Rattle.store_world.specs.Inside.{stored_in}

@@ -1,7 +1,7 @@
 use Rattle.std.proofs.Common.{rules, ◌≡◌, [], ◌∷◌, Option, Some, ap, sym, subst, ◌∙◌}
 use mathlib.Core.Option.{none}
 use Rattle.atomic_table.specs.Table.{Me, step, rest, Allows}
-use Rattle.turn_lock.specs.declared.view.View.{View}
+use Rattle.turn_lock.specs.declared.lock_view.View.{View}
 use Rattle.turn_lock.specs.Rule.{Kept}
 use Rattle.turn_lock.specs.Steps.{PassesOn}
 use Rattle.turn_lock.proofs.Keeps.{passes}

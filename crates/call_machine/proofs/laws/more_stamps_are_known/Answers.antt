@@ -1,5 +1,0 @@
-use Rattle.call_machine.proofs.Knowing.{more_stamps_are_known}
-use Rattle.call_machine.proofs.laws.more_stamps_are_known.Goals as goal
-
-pub returns : goal.returns
-returns c = more_stamps_are_known

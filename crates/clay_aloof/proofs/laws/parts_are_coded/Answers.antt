@@ -1,5 +1,0 @@
-use Rattle.clay_aloof.proofs.Coded.{parts_are_coded}
-use Rattle.clay_aloof.proofs.laws.parts_are_coded.Goals as goal
-
-pub returns : goal.returns
-returns c = parts_are_coded

@@ -1,5 +1,0 @@
-use Rattle.clay_aloof.specs.Partners.{HoldsColumns}
-use Rattle.clay_aloof.proofs.partners.all_digits.Given as goal
-
-abbrev pub invariant-loop-column : goal.invariant-loop-column
-invariant-loop-column l = HoldsColumns l.g l.column l.columns.items

@@ -1,5 +1,0 @@
-use Rattle.clay_aloof.specs.Partners.{HoldsPlaces}
-use Rattle.clay_aloof.proofs.partners.places_of_nodes.Given as goal
-
-abbrev pub invariant-loop-node : goal.invariant-loop-node
-invariant-loop-node l = HoldsPlaces l.g l.node l.places.items

@@ -1,5 +1,0 @@
-use Rattle.code_laws.specs.Columns.{HoldsUncoupled}
-use Rattle.clay_encode.proofs.columns.uncouple_layer.Given as goal
-
-abbrev pub invariant-loop-node : goal.invariant-loop-node
-invariant-loop-node l = HoldsUncoupled l.g l.stripe l.z l.node l.layer

@@ -1,5 +1,0 @@
-use Rattle.clay_field.proofs.PowerLaws.{logarithm, power_of_two_255}
-use Rattle.clay_field.proofs.laws.two_generates.Goals as goal
-
-pub returns : goal.returns
-returns c = record { reached = logarithm; order = power_of_two_255 }

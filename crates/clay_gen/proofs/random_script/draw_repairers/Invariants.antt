@@ -1,0 +1,10 @@
+use Rattle.std.proofs.Common.{◌≡◌}
+use Rattle.clay_gen.specs.Sequence.{drawn, behind_all}
+use Rattle.clay_gen.specs.Calls.{rebuild_from, behind_rebuild}
+use Rattle.clay_gen.proofs.random_script.draw_repairers.Given as goal
+
+abbrev pub invariant-loop-made : goal.invariant-loop-made
+invariant-loop-made l = record {
+  so_far : l.calls ≡ drawn rebuild_from behind_rebuild l._made l.fn.sequence;
+  behind : l.sequence ≡ behind_all behind_rebuild l._made l.fn.sequence;
+}

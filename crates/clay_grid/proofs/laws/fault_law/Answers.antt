@@ -1,5 +1,0 @@
-use Rattle.clay_grid.proofs.LimitLaws.{within_or_fault, fault_outside}
-use Rattle.clay_grid.proofs.laws.fault_law.Goals as goal
-
-pub returns : goal.returns
-returns c = record { either = within_or_fault; not_both = fault_outside }

@@ -1,6 +1,0 @@
-use Rattle.std.proofs.Common.{◌≡◌, ℕ, ◌<◌, get_or, bit_xor}
-use Rattle.clay_field.specs.Field.{product}
-use Rattle.clay_kernels.proofs.coupling.uncouple.Given as goal
-
-abbrev pub invariant-loop-i : goal.invariant-loop-i
-invariant-loop-i l = (k : ℕ) → k < l.i → get_or l.out k 0 ≡ bit_xor (get_or l.own k 0) (product 2 (get_or l.partner k 0))

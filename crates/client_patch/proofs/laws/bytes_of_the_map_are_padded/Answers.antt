@@ -1,5 +1,0 @@
-use Rattle.client_patch.proofs.Padding.{bytes_are_padded}
-use Rattle.client_patch.proofs.laws.bytes_of_the_map_are_padded.Goals as goal
-
-pub returns : goal.returns
-returns c = bytes_are_padded

@@ -1,5 +1,0 @@
-use Rattle.crc64.proofs.Bursts.{burst_found}
-use Rattle.crc64.proofs.laws.bursts_are_found.Goals as goal
-
-pub returns : goal.returns
-returns c = burst_found

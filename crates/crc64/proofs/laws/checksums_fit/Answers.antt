@@ -1,5 +1,0 @@
-use Rattle.crc64.proofs.Degrees.{checksum_below}
-use Rattle.crc64.proofs.laws.checksums_fit.Goals as goal
-
-pub returns : goal.returns
-returns c = checksum_below

@@ -1,5 +1,0 @@
-use Rattle.frame_session.proofs.Written.{ample_sessions_are_those as law}
-use Rattle.frame_session.proofs.laws.ample_sessions_are_those.Goals as goal
-
-pub returns : goal.returns
-returns c = law

@@ -1,5 +1,0 @@
-use Rattle.frame_session.proofs.Bounded.{answers_fit as law}
-use Rattle.frame_session.proofs.laws.answers_fit.Goals as goal
-
-pub returns : goal.returns
-returns c = law

@@ -1,5 +1,0 @@
-use Rattle.hist_rules.proofs.SpoiledLaws.{reply_breaks}
-use Rattle.hist_rules.proofs.laws.a_changed_reply_breaks_a_history.Goals as goal
-
-pub returns : goal.returns
-returns c = reply_breaks

@@ -1,5 +1,0 @@
-use Rattle.hist_rules.proofs.HistoryLaw.{legal_is_history}
-use Rattle.hist_rules.proofs.laws.legal_transcripts_are_histories.Goals as goal
-
-pub returns : goal.returns
-returns c = legal_is_history

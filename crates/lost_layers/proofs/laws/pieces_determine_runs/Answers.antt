@@ -1,5 +1,0 @@
-use Rattle.lost_layers.proofs.Determining.{pieces_determine}
-use Rattle.lost_layers.proofs.laws.pieces_determine_runs.Goals as goal
-
-pub returns : goal.returns
-returns c = pieces_determine

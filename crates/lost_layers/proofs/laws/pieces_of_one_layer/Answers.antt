@@ -1,5 +1,0 @@
-use Rattle.lost_layers.proofs.CountLaws.{one_layer_count}
-use Rattle.lost_layers.proofs.laws.pieces_of_one_layer.Goals as goal
-
-pub returns : goal.returns
-returns c = one_layer_count

@@ -1,5 +1,0 @@
-use Rattle.lost_layers.proofs.RangeLaws.{ranges_are_coded}
-use Rattle.lost_layers.proofs.laws.ranges_are_coded.Goals as goal
-
-pub returns : goal.returns
-returns c = ranges_are_coded

@@ -1,5 +1,0 @@
-use Rattle.read_ledger.proofs.Adding.{are_sums}
-use Rattle.read_ledger.proofs.laws.takes_are_sums.Goals as goal
-
-pub returns : goal.returns
-returns c = are_sums

@@ -1,8 +1,0 @@
-use Rattle.std.proofs.Common.{◌≡◌, ◌++◌, take}
-use Rattle.std.specs.List.{flat_map}
-use Rattle.line_grammar.specs.Line.{line_text}
-use Rattle.script_text.specs.Spelling.{client_lines}
-use Rattle.script_text.proofs.write.push_clients.Given as goal
-
-abbrev pub invariant-loop-part : goal.invariant-loop-part
-invariant-loop-part l = l.text.items ≡ l.initial.text.items ++ flat_map line_text (flat_map client_lines (take l.part-index l.parts))

@@ -1,5 +1,0 @@
-use Rattle.share_format.proofs.Mended.{mended_share}
-use Rattle.share_format.proofs.laws.mends_are_shares.Goals as goal
-
-pub returns : goal.returns
-returns c = mended_share

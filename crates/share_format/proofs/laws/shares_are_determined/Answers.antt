@@ -1,5 +1,0 @@
-use Rattle.share_format.proofs.Determined.{same_shares}
-use Rattle.share_format.proofs.laws.shares_are_determined.Goals as goal
-
-pub returns : goal.returns
-returns c = same_shares

@@ -1,5 +1,0 @@
-use Rattle.share_format.proofs.Blocks.{share_has_length}
-use Rattle.share_format.proofs.laws.shares_have_length.Goals as goal
-
-pub returns : goal.returns
-returns c = share_has_length

@@ -1,5 +1,0 @@
-use Rattle.share_run.specs.Heads.{Tell}
-use Rattle.share_run.proofs.headers.told_header.Given as goal
-
-abbrev pub invariant-loop-share : goal.invariant-loop-share
-invariant-loop-share l = Tell l.heads l.share l.told

@@ -1,5 +1,0 @@
-use Rattle.snapshot_view.proofs.Staying.{snapshots_stay}
-use Rattle.snapshot_view.proofs.laws.snapshots_stay.Goals as goal
-
-pub returns : goal.returns
-returns c = snapshots_stay

@@ -1,5 +1,0 @@
-use Rattle.store_core.proofs.Places.{directory_keeps_places}
-use Rattle.store_core.proofs.laws.points_and_versions_are_places.Goals as goal
-
-pub returns : goal.returns
-returns c = directory_keeps_places

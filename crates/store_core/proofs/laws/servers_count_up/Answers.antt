@@ -1,5 +1,0 @@
-use Rattle.store_core.proofs.Places.{servers_count_up}
-use Rattle.store_core.proofs.laws.servers_count_up.Goals as goal
-
-pub returns : goal.returns
-returns c = servers_count_up

@@ -1,5 +1,0 @@
-use Rattle.store_world.proofs.Grow.{histories_grow}
-use Rattle.store_world.proofs.laws_of_serving.histories_grow.Goals as goal
-
-pub returns : goal.returns
-returns c = histories_grow

@@ -1,5 +1,0 @@
-use Rattle.stripe_stamps.proofs.StampSteps.{stamps_keep_contents}
-use Rattle.stripe_stamps.proofs.laws.stamps_keep_contents.Goals as goal
-
-pub returns : goal.returns
-returns c = stamps_keep_contents

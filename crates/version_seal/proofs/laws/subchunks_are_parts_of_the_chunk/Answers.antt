@@ -1,5 +1,0 @@
-use Rattle.version_seal.proofs.Subchunks.{are_parts}
-use Rattle.version_seal.proofs.laws.subchunks_are_parts_of_the_chunk.Goals as goal
-
-pub returns : goal.returns
-returns c = are_parts
