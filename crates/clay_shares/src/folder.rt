@@ -230,8 +230,8 @@ fn open_listed<'a, R: Files<File = File> + Eprint>(
     listed: &ShareNames,
 ) -> Result<Folder<'a, R>, ExitCode> {
     let mut sources = open_names(command, progress, listed)?;
-    let header = read_cut(command, listed.stem(), closes, &mut sources)?;
-    match String::from_str(command.alloc, listed.stem()) {
+    let header = read_cut(command, listed.cut_name(), closes, &mut sources)?;
+    match String::from_str(command.alloc, listed.cut_name()) {
         Ok(stem) => Ok(Folder {
             stem,
             header,

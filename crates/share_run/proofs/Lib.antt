@@ -9,3 +9,5 @@ pub mod MendLemmas
 pub mod PieceLemmas
 pub mod MadeLemmas
 pub mod HelperLemmas
+pub mod NameLemmas
+pub mod CodeLemmas

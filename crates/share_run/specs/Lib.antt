@@ -10,3 +10,5 @@ pub mod Rebuild
 pub mod Check
 pub mod Made
 pub mod Helpers
+pub mod Names
+pub mod Code

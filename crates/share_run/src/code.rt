@@ -1,4 +1,8 @@
 //! The code of a cut: the numbers that words give, and those that a file's length gives.
+ghost use Rattle.std.specs.Prelude.{◌≡◌, ◌-◌, IfOk, IfErr};
+ghost use Rattle.clay_aloof.specs.Limits.{IsAloof, IsFirstFault};
+ghost use Rattle.share_run.specs.Code.{helpers_asked, code_with, IsForFile, IsCodeFor, least_width};
+
 use clay_aloof::{AloofGeometry, BadAloof};
 
 /// The numbers of a code as far as words give them.
@@ -15,27 +19,47 @@ const PAGE: u64 = 4096;
 
 const MOST_CHUNK: u64 = 1 << 20;
 
-// The bytes of a subchunk for a file of so many bytes: such that it is one stripe, if no more than a page's.
-fn width_for(geometry: AloofGeometry, size: u64) -> u32 {
-    let layers = u64::from(geometry.grid().alpha());
-    let most = PAGE.min(MOST_CHUNK / layers);
-    let wanted = size.div_ceil(u64::from(geometry.stripe_len()));
-    wanted.min(most).max(1) as u32
+impl CodeAsked {
+    // How many chunks help.
+    fn helpers(&self) -> u32
+        ensures { result ≡ helpers_asked self.now }
+    {
+        match self.helpers {
+            Some(helpers) => helpers,
+            None => self.k.saturating_add(self.m).saturating_sub(1),
+        }
+    }
+
+    // The code with subchunks of so many bytes.
+    fn with_width(&self, width: u32) -> Result<AloofGeometry, BadAloof>
+        ensures made { IfOk result (λ g. g ≡ code_with self.now width) }
+        ensures geometry { IfOk result IsAloof }
+        ensures refused { IfErr result (IsFirstFault (code_with self.now width)) }
+    {
+        AloofGeometry::new(self.k, self.m, self.helpers(), width)
+    }
+
+    // The bytes of a subchunk for a file of so many bytes. With subchunks of one byte a stripe has as many bytes as the data chunks have
+    // subchunks.
+    fn width_for(&self, narrow: AloofGeometry, size: u64) -> u32
+        requires { narrow ≡ code_with self.now 1 }
+        ensures { IsForFile self.now size result }
+    {
+        let most = PAGE.min(MOST_CHUNK / u64::from(narrow.grid().alpha()));
+        let wanted = size.div_ceil(u64::from(narrow.stripe_len()));
+        wanted.min(most).max(1) as u32
+    }
 }
 
-/// The code for a file of so many bytes. All other chunks help where no number of helpers is given.
-pub fn code_for(asked: CodeAsked, size: u64) -> Result<AloofGeometry, BadAloof> {
-    let CodeAsked {
-        k,
-        m,
-        helpers,
-        width,
-    } = asked;
-    let d = helpers.unwrap_or_else(|| k.saturating_add(m).saturating_sub(1));
-    if let Some(w) = width {
-        return AloofGeometry::new(k, m, d, w);
+/// The code for a file of so many bytes. All other chunks help where no number of helpers is given. Where no width is given, the subchunks
+/// are such that the file is one stripe, as far as a page of memory and the limit of a chunk allow.
+pub fn code_for(asked: CodeAsked, size: u64) -> Result<AloofGeometry, BadAloof>
+    ensures code { IfOk result (IsCodeFor asked size) }
+    ensures refused { IfErr result (IsFirstFault (code_with asked (least_width asked))) }
+{
+    if let Some(width) = asked.width {
+        return asked.with_width(width);
     }
-    // with subchunks of one byte a stripe has as many bytes as the data chunks have subchunks
-    let narrow = AloofGeometry::new(k, m, d, 1)?;
-    AloofGeometry::new(k, m, d, width_for(narrow, size))
+    let narrow = asked.with_width(1)?;
+    asked.with_width(asked.width_for(narrow, size))
 }

@@ -1,5 +1,6 @@
 //! The names of the shares in a folder.
-ghost use Rattle.std.specs.Prelude.{◌≤◌, IfSome};
+ghost use Rattle.std.specs.Prelude.{◌≡◌, ◌≢◌, ◌+◌, ◌≤◌, ◌<◌, ◌++◌, ◌/◌, ◌%◌, ℕ, IfOk, OnOk, IfSome, MatchOption, codes, decimal, string_bytes};
+ghost use Rattle.share_run.specs.Names.{share_name, IsShareName, AreListed, IsOwn, IsOneOf, IsNoneListed, IsCutName};
 
 use std::alloc::{AllocError, Allocator, Global};
 use std::fs::{self, DirEntry, File};
@@ -10,7 +11,7 @@ use std::rt::Files;
 const MOST_SHARES: usize = 24;
 
 fn digit(byte: u8) -> Option<usize>
-    ensures { IfSome result (λ n. n ≤ 9) }
+    ensures { MatchOption result ((n : ℕ) → n ≤ 9 → byte ≢ 48 + n) (λ n. (n ≤ 9) × (byte ≡ 48 + n)) }
 {
     if byte < b'0' || byte > b'9' {
         return None;
@@ -19,87 +20,78 @@ fn digit(byte: u8) -> Option<usize>
 }
 
 // The number of two digits.
-fn two_digits(digits: &[u8]) -> Option<usize> {
+fn two_digits(digits: &[u8]) -> Option<usize>
+    ensures { IfSome result (λ n. digits.now ≡ decimal (n / 10) ++ decimal (n % 10)) }
+{
     match digits {
         [tens, ones] => Some(digit(*tens)? * 10 + digit(*ones)?),
         _ => None,
     }
 }
 
-// The number in a file's name, if that is a share's, and what stands before it.
-fn numbered(name: &str) -> Option<(&str, usize)> {
-    let (stem, digits) = name.strip_suffix(".clay")?.rsplit_once('.')?;
+// The cut's name and the number in a file's name, if that is a share's.
+fn numbered(name: &str) -> Option<(&str, usize)>
+    ensures { IfSome result (λ found. IsShareName name.now found.0.now found.1) }
+{
+    let (cut, digits) = name.strip_suffix(".clay")?.rsplit_once(".")?;
     let number = two_digits(digits.as_bytes())?;
     if number < MOST_SHARES {
-        Some((stem, number))
+        Some((cut, number))
     } else {
         None
     }
 }
 
-/// The names of a folder's shares by their numbers, and one of another file than these, where there is one.
+/// The names of a folder's shares.
 #[derive(Drop)]
 pub struct ShareNames {
+    /// What the file is called that was cut, once there is a share.
+    pub cut: Option<String>,
+    /// By their numbers those of its shares.
     pub names: Vec<Option<String>>,
+    /// One of another file's.
     pub other: Option<String>,
 }
 
-fn no_names(alloc: Global) -> Result<Vec<Option<String>>, AllocError> {
-    let mut names = Vec::new(alloc);
-    for _ in 0..MOST_SHARES {
-        names.push(None)?;
-    }
-    Ok(names)
-}
-
-// What stands before the number in a share's name.
-fn stem_in(name: &str) -> &str {
-    match numbered(name) {
-        Some((stem, _)) => stem,
-        None => "",
-    }
-}
-
-// The first of some names.
-fn first_of(names: &[Option<String>]) -> Option<&str> {
-    for held in names {
-        if let Some(name) = held {
-            return Some(name.as_str());
-        }
-    }
-    None
-}
-
-// Whether a share of another file than this stands among the names. All of them are of one file.
-fn is_other(names: &[Option<String>], stem: &str) -> bool {
-    match first_of(names) {
-        Some(name) => stem_in(name) != stem,
-        None => false,
-    }
-}
-
-fn hold(names: &mut [Option<String>], number: usize, name: String) {
-    if let Some(place) = names.get_mut(number) {
-        *place = Some(name);
-    }
-}
-
 impl ShareNames {
-    fn none(alloc: Global) -> Result<Self, AllocError> {
-        let names = no_names(alloc)?;
-        Ok(ShareNames { names, other: None })
+    fn none(alloc: Global) -> Result<Self, AllocError>
+        ensures { IfOk result AreListed }
+    {
+        let mut names = Vec::new(alloc);
+        for _ in 0..MOST_SHARES {
+            names.push(None)?;
+        }
+        Ok(ShareNames {
+            cut: None,
+            names,
+            other: None,
+        })
+    }
+
+    // Whether a cut is that of the listed shares. The first share's is.
+    fn is_own(&mut self, alloc: Global, cut: &str) -> Result<bool, AllocError>
+        ensures { IfOk result (IsOwn self.old self.new cut.now) }
+    {
+        if let Some(own) = &self.cut {
+            return Ok(own.as_str() == cut);
+        }
+        self.cut = Some(String::from_str(alloc, cut)?);
+        Ok(true)
     }
 
     // Notes a file's name, if it is a share's.
-    fn note(&mut self, alloc: Global, file_name: &str) -> Result<(), AllocError> {
-        let Some((stem, number)) = numbered(file_name) else {
+    fn note(&mut self, alloc: Global, file_name: &str) -> Result<(), AllocError>
+        requires { AreListed self.old }
+        ensures { OnOk result (AreListed self.new) }
+    {
+        let Some((cut, number)) = numbered(file_name) else {
             return Ok(());
         };
         let name = String::from_str(alloc, file_name)?;
-        if is_other(&self.names, stem) {
-            self.other = Some(name);
+        if self.is_own(alloc, cut)? {
+            self.names[number] = Some(name);
         } else {
-            hold(&mut self.names, number, name);
+            self.other = Some(name);
         }
         Ok(())
     }
@@ -109,7 +101,10 @@ impl ShareNames {
         &mut self,
         alloc: Global,
         entry: io::Result<DirEntry<R, A>>,
-    ) -> io::Result<()> {
+    ) -> io::Result<()>
+        requires { AreListed self.old }
+        ensures { OnOk result (AreListed self.new) }
+    {
         match entry {
             Ok(entry) => Ok(self.note(alloc, entry.file_name())?),
             // no share has a name that isn't text
@@ -119,17 +114,26 @@ impl ShareNames {
     }
 
     /// The name of a share.
-    pub fn first(&self) -> Option<&str> {
+    pub fn first(&self) -> Option<&str>
+        ensures { MatchOption result (IsNoneListed self.now) (λ name. IsOneOf self.now name.now) }
+    {
         if let Some(name) = &self.other {
             return Some(name.as_str());
         }
-        first_of(&self.names)
+        for held in &self.names {
+            if let Some(name) = held {
+                return Some(name.as_str());
+            }
+        }
+        None
     }
 
-    /// What stands before the numbers in the names.
-    pub fn stem(&self) -> &str {
-        match first_of(&self.names) {
-            Some(name) => stem_in(name),
+    /// What the file is called that was cut, and nothing where there is no share.
+    pub fn cut_name(&self) -> &str
+        ensures { IsCutName self.now result.now }
+    {
+        match &self.cut {
+            Some(cut) => cut.as_str(),
             None => "",
         }
     }
@@ -140,7 +144,10 @@ fn note_shares<R: Files<File = File> + AllocGlobal + Clone + Drop>(
     rt: &R,
     folder: &str,
     listed: &mut ShareNames,
-) -> io::Result<()> {
+) -> io::Result<()>
+    requires { AreListed listed.old }
+    ensures { OnOk result (AreListed listed.new) }
+{
     for entry in fs::read_dir(rt, folder)? {
         listed.note_entry(rt.alloc(), entry)?;
         if listed.other.is_some() {
@@ -150,22 +157,28 @@ fn note_shares<R: Files<File = File> + AllocGlobal + Clone + Drop>(
     Ok(())
 }
 
-/// The names of the shares in a folder.
+/// The names of the shares in a folder. An error is the system's, or says that memory was wanting.
 pub fn list_shares<R: Files<File = File> + AllocGlobal + Clone + Drop>(
     rt: &R,
     folder: &str,
-) -> io::Result<ShareNames> {
+) -> io::Result<ShareNames>
+    ensures { IfOk result AreListed }
+{
     let mut listed = ShareNames::none(rt.alloc())?;
     note_shares(rt, folder, &mut listed)?;
     Ok(listed)
 }
 
-/// The path of the share of a number in a folder.
+/// The path of the share of a number in a folder. The only error is want of memory.
 pub fn share_path(
     alloc: Global,
     folder: &str,
-    stem: &str,
+    cut: &str,
     number: usize,
-) -> Result<String, AllocError> {
-    format!(in alloc; "{folder}/{stem}.{number:02}.clay")
+) -> Result<String, AllocError>
+    ensures { IfOk result (λ path. string_bytes path ≡ folder.now ++ (codes "/" ++ share_name cut.now number)) }
+{
+    let tens = number / 10;
+    let ones = number % 10;
+    format!(in alloc; "{folder}/{cut}.{tens}{ones}.clay")
 }
