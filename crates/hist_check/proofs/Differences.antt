@@ -7,7 +7,7 @@ use Rattle.store_map.specs.declared.line.LLine.{LLine}
 use Rattle.hist_rules.specs.declared.verdict.Verdict.{Verdict}
 use Rattle.hist_rules.specs.declared.verdict.Verdict.TheVariants.{BadObject}
 use Rattle.hist_rules.specs.ObjectsListed.{same_line, first_difference}
-use Rattle.hist_losses.proofs.Ors.{not_none}
+use Rattle.hist_tables.proofs.Ors.{not_none}
 
 abbrev Object : Type 0
 Object = List ℕ × List ℕ

@@ -9,7 +9,7 @@ use Rattle.std.proofs.lemmas.List.Folds.{list_any_none}
 use Rattle.store_map.specs.declared.line.HLine.{HLine}
 use Rattle.hist_rules.specs.First.{first_fault_after, first_fault_along}
 use Rattle.hist_rules.specs.PointsRise.{point_rises, number_rises, line_rises}
-use Rattle.hist_losses.proofs.Ors.{none_parts, unless_none}
+use Rattle.hist_tables.proofs.Ors.{none_parts, unless_none}
 
 -- ---- points rise
 

@@ -9,9 +9,8 @@ ghost use Rattle.hist_rules.specs.GivenUp.{is_reaped_cause, is_reaped_result, re
 ghost use Rattle.hist_tables.specs.OperatorCounts.{reaps_in};
 ghost use Rattle.hist_tables.specs.Tables.{value_at};
 
-use hist_losses::blame_unless;
 use hist_rules::Verdict;
-use hist_tables::{ActorTable, Reaps};
+use hist_tables::{ActorTable, Reaps, blame_unless};
 use std::alloc::{AllocError, Global};
 use store_map::{CallName, Cause, RLine, RepairResult, Script, Transcript, XLine};
 

@@ -29,9 +29,8 @@ use crate::results::find_false_result;
 use crate::rising::find_fall;
 use crate::sums::find_wrong_sum;
 use crate::unlisted::find_unlisted;
-use hist_losses::find_false_loss;
 use hist_rules::Verdict;
-use hist_tables::CallSet;
+use hist_tables::{CallSet, find_false_loss};
 use std::alloc::{AllocError, Global};
 use store_map::{ObjectMap, Script, Transcript};
 

@@ -8,9 +8,8 @@ ghost use Rattle.hist_rules.specs.PointsRise.{points_rise};
 ghost use Rattle.hist_rules.specs.LostRaces.{written_name, begins_later, race_lost, races_lost, cause_of_races, lost_races};
 
 use crate::changes::is_change_point;
-use hist_losses::blame_unless;
 use hist_rules::Verdict;
-use hist_tables::call_of;
+use hist_tables::{blame_unless, call_of};
 use store_map::{Call, CallName, Cause, ClientCall, Name, Script, Transcript, XLine};
 
 // The name of the object that the call writes, where it is a write.

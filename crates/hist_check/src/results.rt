@@ -4,12 +4,11 @@ ghost use Rattle.store_map.specs.declared.call_name.CallName.TheVariants.{Repair
 ghost use Rattle.hist_rules.specs.Calls.{rebuild_of};
 ghost use Rattle.hist_rules.specs.PointsRise.{points_rise};
 ghost use Rattle.hist_rules.specs.CausesNamed.{result_named, causes_named};
-ghost use Rattle.hist_losses.specs.Losses.{AreDowns};
+ghost use Rattle.hist_tables.specs.Losses.{AreDowns};
 
 use crate::changes::is_change_point;
-use hist_losses::{blame_unless, downs_fit};
 use hist_rules::Verdict;
-use hist_tables::{OperatorCounts, rebuild_of};
+use hist_tables::{OperatorCounts, blame_unless, downs_fit, rebuild_of};
 use std::alloc::{AllocError, Global};
 use store_map::{CallName, RLine, Rebuild, RepairResult, Script, Transcript};
 

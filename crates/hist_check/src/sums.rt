@@ -3,7 +3,7 @@
 ghost use Rattle.std.specs.Prelude.{◌≡◌, ◌+◌, ◌<◌, ◌≤◌, ◌^◌, get_or, sum_by, IfOk};
 ghost use Rattle.store_map.specs.declared.line.GLine.{GLine};
 ghost use Rattle.hist_rules.specs.TakesAddUp.{server_adds_up, takes_add_up};
-ghost use Rattle.hist_losses.specs.Losses.{AreWipes};
+ghost use Rattle.hist_tables.specs.Losses.{AreWipes};
 
 use hist_rules::Verdict;
 use hist_tables::OperatorCounts;

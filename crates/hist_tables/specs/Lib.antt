@@ -1,3 +1,5 @@
 pub mod Numbers
 pub mod Tables
 pub mod OperatorCounts
+pub mod Losses
+pub mod Lines

@@ -5,10 +5,10 @@ ghost use Rattle.hist_rules.specs.First.{unless};
 ghost use Rattle.hist_rules.specs.Counts.{downs};
 ghost use Rattle.hist_rules.specs.MissingChunk.{is_told_downs};
 ghost use Rattle.hist_rules.specs.declared.verdict.Verdict.TheVariants.{BadCause};
-ghost use Rattle.hist_losses.specs.Losses.{AreDowns};
+ghost use Rattle.hist_tables.specs.Losses.{AreDowns};
 
+use crate::operator_counts::OperatorCounts;
 use hist_rules::Verdict;
-use hist_tables::OperatorCounts;
 use store_map::CallName;
 
 /// The fault of a call's cause, unless a test of it holds.

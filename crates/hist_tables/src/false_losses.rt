@@ -2,8 +2,8 @@
 ghost use Rattle.std.specs.Prelude.{◌≡◌, IfOk};
 ghost use Rattle.hist_rules.specs.First.{first_fault};
 ghost use Rattle.hist_rules.specs.LostChunks.{lost_chunks};
-ghost use Rattle.hist_losses.specs.Losses.{AreLosses};
-ghost use Rattle.hist_losses.specs.Lines.{refusal_for_loss, result_for_loss};
+ghost use Rattle.hist_tables.specs.Losses.{AreLosses};
+ghost use Rattle.hist_tables.specs.Lines.{refusal_for_loss, result_for_loss};
 
 use crate::chunks_missing::{Losses, chunks_lost};
 use hist_rules::Verdict;

@@ -16,7 +16,7 @@ use Rattle.hist_rules.specs.MissingChunk.{names_server}
 use Rattle.store_map.specs.declared.script.Script.{Script}
 use Rattle.store_map.specs.declared.transcript.Transcript.{Transcript}
 use Rattle.hist_rules.specs.LostChunks.{missing_of_cause, missing_of_result, chunks_lost, lost_chunks}
-use Rattle.hist_losses.specs.Lines.{refusal_for_loss, result_for_loss}
+use Rattle.hist_tables.specs.Lines.{refusal_for_loss, result_for_loss}
 use Rattle.hist_rules.specs.First.{unless, first_fault}
 use Rattle.hist_rules.specs.declared.verdict.Verdict.{Verdict}
 use Rattle.hist_tables.proofs.Faults.{first_fault-append}

@@ -2,7 +2,7 @@ use Rattle.std.proofs.Common.{◌≡◌, take, drop}
 use Rattle.std.specs.Prelude.{reverse}
 use Rattle.hist_rules.specs.First.{first_fault_after, first_fault_along}
 use Rattle.hist_rules.specs.MissingChunk.{chunk_missing}
-use Rattle.hist_losses.proofs.chunks_missing.find_present_chunk.Given as goal
+use Rattle.hist_tables.proofs.chunks_missing.find_present_chunk.Given as goal
 
 abbrev pub invariant-loop-place : goal.invariant-loop-place
 invariant-loop-place l =

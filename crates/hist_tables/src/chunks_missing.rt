@@ -5,11 +5,12 @@ ghost use Rattle.store_map.specs.declared.cause.Triple.{Triple};
 ghost use Rattle.hist_rules.specs.First.{first_of, first_fault_along};
 ghost use Rattle.hist_rules.specs.MissingChunk.{names_server, distinct_servers, skip_fits, away_fits, lost_later, epoch_fits, chunk_missing};
 ghost use Rattle.hist_rules.specs.LostChunks.{asks_for_chunks, may_lack_chunks, chunks_lost};
-ghost use Rattle.hist_losses.specs.Losses.{AreLosses};
+ghost use Rattle.hist_tables.specs.Losses.{AreLosses};
 
 use crate::blame::{blame_unless, downs_fit};
+use crate::call_tables::call_of;
+use crate::operator_counts::OperatorCounts;
 use hist_rules::Verdict;
-use hist_tables::{OperatorCounts, call_of};
 use std::alloc::{AllocError, Global};
 use store_map::{Call, CallName, Found, Placement, Script, Triple};
 

@@ -1,6 +1,6 @@
 use Rattle.std.proofs.Common.{◌≡◌, ◌+◌, ◌≤◌, drop}
 use Rattle.hist_rules.specs.MissingChunk.{distinct_servers}
-use Rattle.hist_losses.proofs.chunks_missing.distinct_servers.Given as goal
+use Rattle.hist_tables.proofs.chunks_missing.distinct_servers.Given as goal
 
 abbrev pub invariant-loop-place : goal.invariant-loop-place
 invariant-loop-place l = record {

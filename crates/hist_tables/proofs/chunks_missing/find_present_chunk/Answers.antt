@@ -2,8 +2,8 @@ use Rattle.std.proofs.Common.{sym, ◌∙◌, take}
 use Rattle.hist_rules.specs.First.{first_fault_along}
 use Rattle.hist_rules.specs.MissingChunk.{chunk_missing}
 use Rattle.hist_tables.proofs.Faults.{after_fits, after_found}
-use Rattle.hist_losses.proofs.Ors.{named_before}
-use Rattle.hist_losses.proofs.chunks_missing.find_present_chunk.Goals as goal
+use Rattle.hist_tables.proofs.Ors.{named_before}
+use Rattle.hist_tables.proofs.chunks_missing.find_present_chunk.Goals as goal
 
 pub returns-in-Some : goal.returns-in-Some
 returns-in-Some c =

@@ -1,7 +1,7 @@
 use Rattle.std.proofs.Common.{◌≡◌, drop}
 use Rattle.hist_rules.specs.First.{first_fault}
-use Rattle.hist_losses.specs.Lines.{result_for_loss}
-use Rattle.hist_losses.proofs.false_losses.find_false_failure.Given as goal
+use Rattle.hist_tables.specs.Lines.{result_for_loss}
+use Rattle.hist_tables.proofs.false_losses.find_false_failure.Given as goal
 
 abbrev pub invariant-loop-line : goal.invariant-loop-line
 invariant-loop-line l = first_fault (result_for_loss l.script) (drop l.line-index l.lines) ≡ first_fault (result_for_loss l.script) l.lines

@@ -2,9 +2,9 @@ use Rattle.std.proofs.Common.{sym, ap, ◌∙◌, Option}
 use Rattle.std.specs.Option.{option_or}
 use Rattle.hist_rules.specs.First.{first_fault}
 use Rattle.hist_rules.specs.declared.verdict.Verdict.{Verdict}
-use Rattle.hist_losses.specs.Lines.{refusal_for_loss, result_for_loss}
-use Rattle.hist_losses.proofs.Ors.{lost_by_lines}
-use Rattle.hist_losses.proofs.false_losses.find_false_loss.Goals as goal
+use Rattle.hist_tables.specs.Lines.{refusal_for_loss, result_for_loss}
+use Rattle.hist_tables.proofs.Ors.{lost_by_lines}
+use Rattle.hist_tables.proofs.false_losses.find_false_loss.Goals as goal
 
 pub returns-in-Some : goal.returns-in-Some
 returns-in-Some c =

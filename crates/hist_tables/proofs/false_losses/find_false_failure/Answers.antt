@@ -1,8 +1,8 @@
 use Rattle.std.proofs.Common.{sym}
 use Rattle.hist_rules.specs.First.{first_fault}
 use Rattle.hist_tables.proofs.Faults.{item_fits, item_found, no_fault}
-use Rattle.hist_losses.specs.Lines.{result_for_loss}
-use Rattle.hist_losses.proofs.false_losses.find_false_failure.Goals as goal
+use Rattle.hist_tables.specs.Lines.{result_for_loss}
+use Rattle.hist_tables.proofs.false_losses.find_false_failure.Goals as goal
 
 pub returns-in-Some : goal.returns-in-Some
 returns-in-Some c =

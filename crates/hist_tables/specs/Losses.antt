@@ -4,7 +4,7 @@ use Rattle.store_map.specs.declared.script.Script.{Script}
 use Rattle.hist_rules.specs.Counts.{wipes, downs}
 use Rattle.hist_tables.specs.OperatorCounts.{count_in}
 use Rattle.hist_tables.specs.declared.operator_counts.OperatorCounts.{OperatorCounts}
-use Rattle.hist_losses.specs.declared.chunks_missing.Losses.{Losses}
+use Rattle.hist_tables.specs.declared.chunks_missing.Losses.{Losses}
 
 -- how often each server is emptied
 abbrev pub AreWipes : Script → OperatorCounts → Type 0
