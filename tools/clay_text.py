@@ -1,4 +1,4 @@
-"""Scripts, transcripts and traces of clay as plain Python data, for notebooks, tools/look and bench/traffic.
+"""Scripts, transcripts and traces of clay as plain Python data, for notebooks, tools/look and checks/traffic.
 
     from clay_text import read_run, read_script
     script = read_script(Path("examples/rebuild.clay").read_text())

@@ -1,6 +1,6 @@
 #!/usr/bin/env python3
 """Draws pictures beside this file: grid.svg and repair.svg of docs/CLAY-CODES.md from the numbers of a code, layers.svg of
-docs/ARCHITECTURE.md from crates.txt, docs/CRATES.md and the crates' modules. `bench/traffic` draws traffic.svg.
+docs/ARCHITECTURE.md from crates.txt, docs/CRATES.md and the crates' modules. `checks/traffic` draws traffic.svg.
 
 Each number of a code is computed here from K and M as docs/CLAY-CODES.md defines it.
 `make.py --check` writes nothing, and fails where a picture isn't what it would draw.
