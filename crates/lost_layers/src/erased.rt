@@ -12,7 +12,7 @@ use clay_model::{Subchunk, partner_of};
 
 /// A run of the code with its place, and marks for the nodes.
 #[derive(Clone, Copy)]
-pub struct ErasedRun<'a> {
+pub(crate) struct ErasedRun<'a> {
     pub placed: PlacedRun,
     /// For each node, whether its chunk is missing. The lost one is.
     pub missing: &'a [bool],

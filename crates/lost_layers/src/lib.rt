@@ -14,7 +14,6 @@ mod placed;
 mod run;
 mod unknown;
 
-pub use erased::ErasedRun;
 pub use laws_of_missing::missing_pieces_determine;
 pub use laws_of_pieces::{
     pieces_determine_runs, pieces_of_one_layer, ranges_are_coded, reads_stay_within_repairs,
@@ -24,7 +23,7 @@ pub use marked::MarkedRun;
 pub use missing::{missing_count, missing_pieces, readable_run};
 pub use missing_fault::MissingFault;
 pub use pieces::{count_of_run, lost_count, lost_pieces, pieces_of_run};
-pub use pieces_of_missing::{SolvedRun, erased_pieces};
+pub use pieces_of_missing::SolvedRun;
 pub use placed::PlacedRun;
 pub use run::{LostPiece, LostRun};
 pub use unknown::unknown_nodes;

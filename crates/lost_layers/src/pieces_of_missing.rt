@@ -148,18 +148,3 @@ impl<'a> SolvedRun<'a> {
         Ok(pieces)
     }
 }
-
-/// The subchunks that determine the layers of the run: by rising chunk, and of a chunk by rising layer.
-pub fn erased_pieces(alloc: Global, erased: &ErasedRun<'_>) -> Result<Vec<LostPiece>, AllocError>
-    requires { IsErasedRun erased.now }
-    ensures { IfOk result (λ pieces. pieces.items ≡ pieces_of (erased_of erased.now)) }
-{
-    let solved = solved_layers(alloc, erased)?;
-    let run = SolvedRun {
-        placed: erased.placed,
-        missing: erased.missing,
-        unknown: erased.unknown,
-        solved: &solved,
-    };
-    run.pieces(alloc)
-}
