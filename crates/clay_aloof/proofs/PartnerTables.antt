@@ -9,7 +9,7 @@ use Rattle.clay_grid.proofs.LayerLaws.{get_or-digits_of, partner_vertex, partner
 use Rattle.clay_model.proofs.Unique.{row_of, node_below}
 use Rattle.clay_model.specs.Partners.{ArePartners}
 use Rattle.clay_aloof.specs.Partners.{stride_of, IsPlace, IsDigit, HoldsPlaces, HoldsDigits, HoldsColumns, HasTables}
-use Rattle.clay_aloof.specs.declared.partner_tables.Place.{Place}
+use Rattle.clay_aloof.specs.declared.partner_tables.NodePlace.{NodePlace}
 use Rattle.clay_aloof.specs.declared.partner_tables.Digit.{Digit}
 use Rattle.clay_aloof.proofs.Layer.{some_rows}
 
@@ -24,7 +24,7 @@ entry_more P xs new n long each here i default h =
           subst (P i) (sym (get_or_append_left xs (new ∷ []) default i (subst (λ l. i < l) (sym long) below))) (each i default below)
     ]
 
-pub places_more : (g : Shape) (places : List Place) (new : Place) (n : ℕ) → HoldsPlaces g n places → IsPlace g n new → HoldsPlaces g (n + 1) (places ++ new ∷ [])
+pub places_more : (g : Shape) (places : List NodePlace) (new : NodePlace) (n : ℕ) → HoldsPlaces g n places → IsPlace g n new → HoldsPlaces g (n + 1) (places ++ new ∷ [])
 places_more g places new n before here = record {
   long = length_push places new ∙ ap (λ l. l + 1) before.long;
   each = entry_more (IsPlace g) places new n before.long before.each here;
@@ -44,11 +44,11 @@ columns_more g columns new n before here = record {
 }
 
 -- the place and the digit that are read
-pub record AreRead (g : Shape) (i n : ℕ) (place : Place) (digit : Digit) : Type 0 where
+pub record AreRead (g : Shape) (i n : ℕ) (place : NodePlace) (digit : Digit) : Type 0 where
   pub of_node : IsPlace g i place
   pub of_layer : IsDigit g (i / row_count g) n digit
 
-pub are_read : (g : Shape) (places : List Place) (columns : List (Vec Digit Global)) (i n : ℕ) (place : Place) (column : Vec Digit Global) (digit : Digit) → HasTables g places columns
+pub are_read : (g : Shape) (places : List NodePlace) (columns : List (Vec Digit Global)) (i n : ℕ) (place : NodePlace) (column : Vec Digit Global) (digit : Digit) → HasTables g places columns
     → i < node_count g → n < layer_count g → place ≡ get_or places i place → column ≡ get_or columns place.column column → digit ≡ get_or column.items n digit → AreRead g i n place digit
 are_read g places columns i n place column digit tables hi hn place_is column_is digit_is =
     let rows : 0 < row_count g = some_rows g tables.geometry in
@@ -60,7 +60,7 @@ are_read g places columns i n place column digit tables hi hn place_is column_is
     record { of_node = of_node; of_layer = subst (IsDigit g (i / row_count g) n) (sym digit_is) (digits.each n digit hn) }
 
 -- what a place and a digit make up
-module _ (g : Shape) (rows : 0 < row_count g) (i n : ℕ) (hi : i < node_count g) (hn : n < layer_count g) (place : Place) (digit : Digit) (read : AreRead g i n place digit) where
+module _ (g : Shape) (rows : 0 < row_count g) (i n : ℕ) (hi : i < node_count g) (hn : n < layer_count g) (place : NodePlace) (digit : Digit) (read : AreRead g i n place digit) where
   column : i / row_count g < column_count g
   column = row_of (row_count g) (column_count g) i rows hi
 

@@ -3,7 +3,7 @@ use Rattle.std.specs.Prelude.{◌≡◌, ℕ, ◌-◌, ◌*◌, ◌/◌, ◌%◌
 use Rattle.std.specs.declared.alloc.Global.{Global}
 use Rattle.clay_grid.specs.Shape.{Shape, row_count, column_count, node_count, layer_count}
 use Rattle.clay_grid.specs.Limits.{IsGeometry}
-use Rattle.clay_aloof.specs.declared.partner_tables.Place.{Place}
+use Rattle.clay_aloof.specs.declared.partner_tables.NodePlace.{NodePlace}
 use Rattle.clay_aloof.specs.declared.partner_tables.Digit.{Digit}
 
 -- what a digit of column y counts in a layer's number
@@ -11,7 +11,7 @@ abbrev pub stride_of : Shape → ℕ → ℕ
 stride_of g y = row_count g ^ (column_count g - 1 - y)
 
 -- a node's column, the column's first node, and what the node's row counts as the column's digit
-pub record IsPlace (g : Shape) (i : ℕ) (place : Place) : Type 0 where
+pub record IsPlace (g : Shape) (i : ℕ) (place : NodePlace) : Type 0 where
   pub column : place.column ≡ i / row_count g
   pub first : place.first ≡ i / row_count g * row_count g
   pub counts : place.counts ≡ i % row_count g * stride_of g (i / row_count g)
@@ -22,9 +22,9 @@ pub record IsDigit (g : Shape) (y n : ℕ) (digit : Digit) : Type 0 where
   pub rest : digit.rest ≡ n - n / stride_of g y % row_count g * stride_of g y
 
 -- the places of the first count nodes
-pub record HoldsPlaces (g : Shape) (count : ℕ) (places : List Place) : Type 0 where
+pub record HoldsPlaces (g : Shape) (count : ℕ) (places : List NodePlace) : Type 0 where
   pub long : length places ≡ count
-  pub each : (i : ℕ) (default : Place) → i < count → IsPlace g i (get_or places i default)
+  pub each : (i : ℕ) (default : NodePlace) → i < count → IsPlace g i (get_or places i default)
 
 -- digit y of the first count layers
 pub record HoldsDigits (g : Shape) (y count : ℕ) (digits : List Digit) : Type 0 where
@@ -36,7 +36,7 @@ pub record HoldsColumns (g : Shape) (count : ℕ) (columns : List (Vec Digit Glo
   pub long : length columns ≡ count
   pub each : (y : ℕ) (default : Vec Digit Global) → y < count → HoldsDigits g y (layer_count g) (get_or columns y default).items
 
-pub record HasTables (g : Shape) (places : List Place) (columns : List (Vec Digit Global)) : Type 0 where
+pub record HasTables (g : Shape) (places : List NodePlace) (columns : List (Vec Digit Global)) : Type 0 where
   pub geometry : IsGeometry g
   pub of_nodes : HoldsPlaces g (node_count g) places
   pub of_layers : HoldsColumns g (column_count g) columns

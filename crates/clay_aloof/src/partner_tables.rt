@@ -12,7 +12,7 @@ use std::marker::Model;
 
 /// Where a node stands.
 #[derive(Clone, Copy)]
-pub struct Place {
+pub struct NodePlace {
     /// Its column.
     pub column: u32,
     /// The first node of the column.
@@ -33,7 +33,7 @@ pub struct Digit {
 #[derive(Drop)]
 pub struct Partners {
     grid: Geometry,
-    places: Vec<Place>,
+    places: Vec<NodePlace>,
     /// For each column its digit of each layer.
     columns: Vec<Vec<Digit>>,
 }
@@ -50,12 +50,12 @@ impl Model for Partners {
 }
 
 // Where a node stands.
-fn place_of(g: Geometry, node: u32) -> Place
+fn place_of(g: Geometry, node: u32) -> NodePlace
     requires { node < node_count g }
     ensures { IsPlace g node result }
 {
     let (row, column) = g.place(node);
-    Place {
+    NodePlace {
         column,
         first: column * g.q(),
         counts: row * g.stride(column),
@@ -63,7 +63,7 @@ fn place_of(g: Geometry, node: u32) -> Place
 }
 
 // The places of all nodes.
-fn places_of_nodes(alloc: Global, g: Geometry) -> Result<Vec<Place>, AllocError>
+fn places_of_nodes(alloc: Global, g: Geometry) -> Result<Vec<NodePlace>, AllocError>
     ensures places { IfOk result (λ v. HoldsPlaces g (node_count g) v.items) }
     ensures geometry { IsGeometry g }
 {
