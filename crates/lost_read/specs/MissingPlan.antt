@@ -9,7 +9,7 @@ use Rattle.lost_read.specs.Plan.{HasPlaces}
 use Rattle.lost_layers.specs.Erased.{Erased}
 use Rattle.lost_layers.specs.ErasedLayers.{is_solved}
 use Rattle.lost_layers.specs.ErasedPieces.{pieces_of}
-use Rattle.lost_read.specs.declared.missing_plan.ReadPlan.{ReadPlan}
+use Rattle.lost_read.specs.declared.missing_plan.MissingReadPlan.{MissingReadPlan}
 
 -- how many layers below layer n are solved
 abbrev pub rank : Erased → ℕ → ℕ
@@ -22,7 +22,7 @@ pub record AreRanks (e : Erased) (count : ℕ) (ranks : List ℕ) : Type 0 where
 
 -- the places of a run's pieces, the unknown nodes, their factors, the layers by score, their ranks, a subchunk of zeros, and the products of the
 -- inverses of 2 and of 5
-pub record IsReadPlan (e : Erased) (plan : ReadPlan) : Type 0 where
+pub record IsMissingReadPlan (e : Erased) (plan : MissingReadPlan) : Type 0 where
   pub places_long : length plan.places.items ≡ chunk_count e.g * layer_count e.g
   pub places_are : HasPlaces e.g (pieces_of e) (length (pieces_of e)) plan.places.items
   pub few : length plan.points.items ≤ e.g.parity_count

@@ -11,7 +11,7 @@ use Rattle.lost_layers.specs.Erased.{Erased}
 use Rattle.lost_layers.specs.ErasedPieces.{pieces_of}
 use Rattle.lost_layers.specs.ErasedRuns.{solved_of, IsSolvedRun}
 use Rattle.lost_read.specs.MissingRead.{HasPieces}
-use Rattle.lost_read.specs.MissingPlan.{IsReadPlan}
+use Rattle.lost_read.specs.MissingPlan.{IsMissingReadPlan}
 use Rattle.lost_read.specs.declared.missing_reading.Reading.{Reading}
 
 abbrev pub run_of : Reading → Erased
@@ -24,7 +24,7 @@ Fits reading word = HasPieces (run_of reading).g (pieces_of (run_of reading)) (m
 -- a run, its plan, and its pieces
 pub record IsReading (reading : Reading) : Type 0 where
   pub run : IsSolvedRun reading.run.now
-  pub planned : IsReadPlan (run_of reading) reading.plan.now
+  pub planned : IsMissingReadPlan (run_of reading) reading.plan.now
   pub count : length reading.pieces.now ≡ length (pieces_of (run_of reading))
   pub lengths : AreLong (run_of reading).g.width (map (λ piece. piece.now) reading.pieces.now)
 

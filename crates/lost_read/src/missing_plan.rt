@@ -3,7 +3,7 @@ ghost use Rattle.std.specs.Prelude.{◌≡◌, [], ◌∷◌, IfOk};
 ghost use Rattle.clay_grid.specs.Shape.{layer_count};
 ghost use Rattle.lost_layers.specs.ErasedPieces.{pieces_of};
 ghost use Rattle.lost_layers.specs.ErasedRuns.{solved_of, IsSolvedRun};
-ghost use Rattle.lost_read.specs.MissingPlan.{AreRanks, IsReadPlan};
+ghost use Rattle.lost_read.specs.MissingPlan.{AreRanks, IsMissingReadPlan};
 
 use crate::read_places::places_of;
 use clay_kernels::{Products, fifths, halves, zeros};
@@ -14,7 +14,7 @@ use std::alloc::{AllocError, Global};
 
 /// What a run is read with.
 #[derive(Drop)]
-pub(crate) struct ReadPlan {
+pub(crate) struct MissingReadPlan {
     /// For each subchunk, chunk by chunk, its place among the pieces, and 0 where it is none of them.
     pub(crate) places: Vec<usize>,
     /// The unknown nodes, rising.
@@ -56,16 +56,16 @@ fn ranks_of(alloc: Global, run: &SolvedRun<'_>) -> Result<Vec<u32>, AllocError>
     Ok(ranks)
 }
 
-impl ReadPlan {
+impl MissingReadPlan {
     /// The plan for a run that takes these pieces.
     pub(crate) fn new(
         alloc: Global,
         run: &SolvedRun<'_>,
         list: &[LostPiece],
-    ) -> Result<ReadPlan, AllocError>
+    ) -> Result<MissingReadPlan, AllocError>
         requires run { IsSolvedRun run.now }
         requires list { list.now ≡ pieces_of (solved_of run.now) }
-        ensures { IfOk result (λ plan. IsReadPlan (solved_of run.now) plan) }
+        ensures { IfOk result (λ plan. IsMissingReadPlan (solved_of run.now) plan) }
     {
         let g = run.placed.g;
         let places = places_of(alloc, g, list)?;
@@ -74,7 +74,7 @@ impl ReadPlan {
         let order = g.layers_by_score(alloc, run.unknown)?;
         let ranks = ranks_of(alloc, run)?;
         let zeros = zeros(alloc, g.w() as usize)?;
-        Ok(ReadPlan {
+        Ok(MissingReadPlan {
             places,
             points,
             generator,

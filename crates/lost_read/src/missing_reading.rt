@@ -10,7 +10,7 @@ ghost use Rattle.lost_layers.specs.ErasedPieces.{is_piece, pieces_of};
 ghost use Rattle.lost_read.specs.MissingReadings.{run_of, IsReading, IsCoupledIn, IsUncoupledIn, IsMateIn, HoldsRunIn, IsRunIn};
 ghost use Rattle.lost_read.specs.Values.{values_length, HoldsRowsIn, AddsNodeIn, HoldsLayerIn, HoldsLowerIn, HoldsAllIn, AddsLayerIn};
 
-use crate::missing_plan::ReadPlan;
+use crate::missing_plan::MissingReadPlan;
 use crate::read_places::{bytes_at, place_of};
 use clay_kernels::{couple, cross, uncouple, uncouple_from, zeros};
 use clay_model::{Subchunk, partner_of};
@@ -21,7 +21,7 @@ use std::alloc::{AllocError, Global};
 #[derive(Clone, Copy)]
 pub(crate) struct Reading<'a> {
     pub(crate) run: &'a SolvedRun<'a>,
-    pub(crate) plan: &'a ReadPlan,
+    pub(crate) plan: &'a MissingReadPlan,
     pub(crate) pieces: &'a [&'a [u8]],
 }
 

@@ -7,7 +7,7 @@ ghost use Rattle.lost_layers.specs.ErasedRuns.{solved_of, IsSolvedRun};
 ghost use Rattle.lost_read.specs.MissingRead.{FitRun, FitErased, IsReadableFrom, IsReadFrom, IsRunFrom};
 ghost use Rattle.lost_read.specs.MissingRefused.{IsMisfit, IsUnread, IsReadRefused};
 
-use crate::missing_plan::ReadPlan;
+use crate::missing_plan::MissingReadPlan;
 use crate::missing_read_fault::MissingReadFault;
 use crate::missing_reading::Reading;
 use crate::read_places::are_subchunks;
@@ -53,7 +53,7 @@ fn read_listed(
     ensures read { OnOk result (IsRunFrom (solved_of run.now) (map (λ piece. piece.now) pieces.now) out.new) }
     ensures kept { OnErr result (out.new ≡ out.old) }
 {
-    let plan = ReadPlan::new(alloc, run, list)?;
+    let plan = MissingReadPlan::new(alloc, run, list)?;
     let reading = Reading {
         run,
         plan: &plan,

@@ -7,7 +7,7 @@ use Rattle.code_laws.proofs.ErasedNodes.{AreDistinct-erased}
 use Rattle.lost_read.specs.Plan.{AreSubchunks, HasPlaces}
 use Rattle.lost_layers.specs.ErasedRuns.{solved_of}
 use Rattle.lost_read.proofs.MissingReadLaws.{are_subchunks, few_points}
-use Rattle.lost_read.proofs.missing_plan.ReadPlan.new.Goals as goal
+use Rattle.lost_read.proofs.missing_plan.MissingReadPlan.new.Goals as goal
 
 pub places_of-requires : goal.places_of-requires
 places_of-requires c =
