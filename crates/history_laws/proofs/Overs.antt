@@ -138,7 +138,7 @@ job_there works i number job e = by (slice_get works i) refl e
     by (Some work) is e = (work, is, e)
 
 -- where a call of a group stands: its actor's work and how far it has come
-pub record Place (works : List Work) (callings : List Calling) (i number : ℕ) (job : Job) : Type 0 where
+pub record CallPlace (works : List Work) (callings : List Calling) (i number : ℕ) (job : Job) : Type 0 where
   pub work : Work
   pub is_work : slice_get works i ≡ Some work
   pub is_job : slice_get work.jobs number ≡ Some job
@@ -149,7 +149,7 @@ module _ (script : Script) (core : Core) (known : EndKnown script core) (trace :
   abbrev g : Shape
   g = script.geometry
 
-  pub client_place : (i number : ℕ) (job : Job) → job_of_call script (client_name i number) ≡ Some job → Place (client_work script) core.clients i number job
+  pub client_place : (i number : ℕ) (job : Job) → job_of_call script (client_name i number) ≡ Some job → CallPlace (client_work script) core.clients i number job
   client_place i number job is =
       let there : (work : Work) × (slice_get (client_work script) i ≡ Some work) × (slice_get work.jobs number ≡ Some job) = job_there (client_work script) i number job is in
       let low : i < length (client_work script) = slice_get_within (client_work script) i there.0 there.1 in
@@ -158,7 +158,7 @@ module _ (script : Script) (core : Core) (known : EndKnown script core) (trace :
       let calling : (c : Calling) × (slice_get core.clients i ≡ Some c) = inside core.clients i (omega (arith, low, size, same)) in
       record { work = there.0; is_work = there.1; is_job = there.2; calling = calling.0; is_calling = calling.1 }
 
-  pub repairer_place : (i number : ℕ) (job : Job) → job_of_call script (repairer_name i number) ≡ Some job → Place (repairer_work script) core.repairers i number job
+  pub repairer_place : (i number : ℕ) (job : Job) → job_of_call script (repairer_name i number) ≡ Some job → CallPlace (repairer_work script) core.repairers i number job
   repairer_place i number job is =
       let there : (work : Work) × (slice_get (repairer_work script) i ≡ Some work) × (slice_get work.jobs number ≡ Some job) = job_there (repairer_work script) i number job is in
       let low : i < length (repairer_work script) = slice_get_within (repairer_work script) i there.0 there.1 in
@@ -179,12 +179,12 @@ module _ (script : Script) (core : Core) (known : EndKnown script core) (trace :
   -- a call that is over has ended
   over_below : (call : CallName) → IsOver script trace call → number_of call < ended_count core call
   over_below (name.Client call) over =
-      let p : Place (client_work script) core.clients call.client call.number over.0 = client_place call.client call.number over.0 over.1 in
+      let p : CallPlace (client_work script) core.clients call.client call.number over.0 = client_place call.client call.number over.0 over.1 in
       subst (λ o. call.number < ended_of o) (sym p.is_calling)
       (over_ended g (size_of script) (tries_of script) known.can.tried (actor.Client call.client) p.work.jobs p.calling trace (has.clients call.client p.calling p.is_calling p.work p.is_work)
       (client_going call.client p.work p.calling p.is_work p.is_calling) call.number over.0 p.is_job over.2.0 over.2.1)
   over_below (name.Repairer call) over =
-      let p : Place (repairer_work script) core.repairers call.repairer call.number over.0 = repairer_place call.repairer call.number over.0 over.1 in
+      let p : CallPlace (repairer_work script) core.repairers call.repairer call.number over.0 = repairer_place call.repairer call.number over.0 over.1 in
       subst (λ o. call.number < ended_of o) (sym p.is_calling)
       (over_ended g (size_of script) (tries_of script) known.can.tried (actor.Repairer call.repairer) p.work.jobs p.calling trace (has.repairers call.repairer p.calling p.is_calling p.work p.is_work)
       (repairer_going call.repairer p.work p.calling p.is_work p.is_calling) call.number over.0 p.is_job over.2.0 over.2.1)
@@ -193,13 +193,13 @@ module _ (script : Script) (core : Core) (known : EndKnown script core) (trace :
   module _ (steps : StepsSoFar script trace core) (bounds : KeepBounds script core.clients core.repairers) where
     enough_below : (call : CallName) → MadeAllSteps script trace call → number_of call < ended_count core call
     enough_below (name.Client call) all =
-        let p : Place (client_work script) core.clients call.client call.number all.0 = client_place call.client call.number all.0 all.1 in
+        let p : CallPlace (client_work script) core.clients call.client call.number all.0 = client_place call.client call.number all.0 all.1 in
         subst (λ o. call.number < ended_of o) (sym p.is_calling)
         (enough_ended script (actor.Client call.client) p.work p.calling trace (steps.clients call.client p.calling p.is_calling)
         (both_there (KeepsPinnedBound script) (slice_get (client_work script) call.client) (slice_get core.clients call.client) p.work p.calling (bounds.clients_pinned call.client) p.is_work p.is_calling)
         (has.clients call.client p.calling p.is_calling p.work p.is_work) call.number all.0 p.is_job all.2)
     enough_below (name.Repairer call) all =
-        let p : Place (repairer_work script) core.repairers call.repairer call.number all.0 = repairer_place call.repairer call.number all.0 all.1 in
+        let p : CallPlace (repairer_work script) core.repairers call.repairer call.number all.0 = repairer_place call.repairer call.number all.0 all.1 in
         subst (λ o. call.number < ended_of o) (sym p.is_calling)
         (enough_ended script (actor.Repairer call.repairer) p.work p.calling trace (steps.repairers call.repairer p.calling p.is_calling)
         (both_there (KeepsPinnedBound script) (slice_get (repairer_work script) call.repairer) (slice_get core.repairers call.repairer) p.work p.calling (bounds.repairers_pinned call.repairer) p.is_work p.is_calling)

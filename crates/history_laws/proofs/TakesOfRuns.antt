@@ -56,7 +56,7 @@ use Rattle.history_laws.proofs.Rebuilds.{rebuilds_take_least}
 use Rattle.history_laws.specs.Over.{answers_to, IsOver}
 use Rattle.history_laws.specs.Takes.{first_takes, takes_shown, RunsTakeLeast}
 use Rattle.history_laws.proofs.BytesPinned.{bytes_pinned, was_served}
-use Rattle.history_laws.proofs.Overs.{Place, client_place, repairer_place, below_over}
+use Rattle.history_laws.proofs.Overs.{CallPlace, client_place, repairer_place, below_over}
 use Rattle.history_laws.proofs.TakesShown.{lines_given, exact_answers, takes_told}
 use Rattle.history_laws.proofs.TakesTraced.{TakesSoFar, all_takes}
 use Rattle.history_laws.proofs.TargetsAway.{rebuild_is}
@@ -121,7 +121,7 @@ module _ (script : Script) (geometry : IsGeometry script.geometry) (core : Core)
       let job_is : rebuild_job rebuild ≡ w.job = ap rebuild_job (same_Some rebuild own.0 (sym is ∙ own.1)) ∙ own.2 in
       let kind : w.job.note.kind ≡ Kind.Rebuild = sym (ap (λ (j : Job). j.note.kind) job_is) in
       let target : w.job.target ≡ rebuild.server = sym (ap (λ (j : Job). j.target) job_is) in
-      let p : Place (repairer_work script) core.repairers call.repairer call.number w.job = repairer_place script core known trace has.causes call.repairer call.number w.job w.is_call in
+      let p : CallPlace (repairer_work script) core.repairers call.repairer call.number w.job = repairer_place script core known trace has.causes call.repairer call.number w.job w.is_call in
       let within : w.job.target < chunk_count script.geometry = known.can.repairers.targets call.repairer p.work p.is_work call.number w.job p.is_job kind in
       let ends : act_after script.geometry (tries_of script) w.job (answers_to named trace) ≡ Act.Finish Outcome.Rebuilt = w.ends ∙ ap Act.Finish (rebuilt w.outcome w.shows) in
       let law : TookLeast script.geometry w.job.target (taken named w.job) = rebuilds_take_least script geometry w.job kind within (answers_to named trace) (log_of named w.job w.is_call w.are_told) ends one in
@@ -157,7 +157,7 @@ module _ (script : Script) (geometry : IsGeometry script.geometry) (core : Core)
       let this : HLine = record { point = point; call = call; reply = shown_as.Reply (reply.Bytes bytes) } in
       let answered : answered_at core named ≡ true = has_reply this refl line in
       let over : IsOver script trace named = below_over script core known trace has.causes named (answered_below core named answered) in
-      let p : Place (client_work script) core.clients call.client call.number over.0 = client_place script core known trace has.causes call.client call.number over.0 over.1 in
+      let p : CallPlace (client_work script) core.clients call.client call.number over.0 = client_place script core known trace has.causes call.client call.number over.0 over.1 in
       let low : call.number < ended_of (Some p.calling) = subst (λ o. call.number < ended_of o) p.is_calling (answered_below core named answered) in
       let e : (x : Ended) × (slice_get p.calling.ended call.number ≡ Some x) = inside p.calling.ended call.number low in
       let ended : AreTold script.geometry (size_of script) (tries_of script) over.0 (answers_to named trace) × (act_after script.geometry (tries_of script) over.0 (answers_to named trace) ≡ Act.Finish e.0.outcome) =

@@ -26,7 +26,7 @@ use Rattle.history_laws.specs.Trace.{Made}
 use Rattle.history_laws.specs.TakesOfCalls.{taken_by, AreExactSince}
 use Rattle.history_laws.specs.Over.{answers_to}
 use Rattle.history_laws.specs.Takes.{lines_of_takes, first_takes}
-use Rattle.history_laws.proofs.Overs.{Place, client_place, repairer_place}
+use Rattle.history_laws.proofs.Overs.{CallPlace, client_place, repairer_place}
 use Rattle.history_laws.proofs.TakesTraced.{TakesThen, TakesSoFar}
 
 -- ---- numbered lines of which some are wanted
@@ -183,7 +183,7 @@ module _ (who : ℕ → ℕ → CallName) (names : Names who) (i number : ℕ) w
 module _ (script : Script) (core : Core) (known : EndKnown script core) (trace : List Made) (has : TakesSoFar script trace core) where
   pub lines_given : (call : CallName) (job : Job) → job_of_call script call ≡ Some job → lines_of_takes (shown script core) call ≡ take_line call (taken_by script.geometry (tries_of script) job (answers_to call trace))
   lines_given (name.Client call) job is =
-      let p : Place (client_work script) core.clients call.client call.number job = client_place script core known trace has.causes call.client call.number job is in
+      let p : CallPlace (client_work script) core.clients call.client call.number job = client_place script core known trace has.causes call.client call.number job is in
       filter-append (mine (name.Client call)) (lines_of_actors (λ j. take_lines (client_name j)) core.clients) (lines_of_actors (λ j. take_lines (repairer_name j)) core.repairers)
       ∙ ap (λ l. filter (mine (name.Client call)) (lines_of_actors (λ j. take_lines (client_name j)) core.clients) ++ l) (strangers (name.Client call) repairer_name (λ j n. refl) core.repairers)
       ∙ append-nil (filter (mine (name.Client call)) (lines_of_actors (λ j. take_lines (client_name j)) core.clients))
@@ -191,7 +191,7 @@ module _ (script : Script) (core : Core) (known : EndKnown script core) (trace :
       ∙ given_line client_name client_names call.client call.number script.geometry (tries_of script) trace (actor.Client call.client) p.work.jobs p.calling (has.clients call.client p.calling p.is_calling p.work p.is_work) job p.is_job
       ((has.causes.clients call.client p.calling p.is_calling p.work p.is_work).later call.number)
   lines_given (name.Repairer call) job is =
-      let p : Place (repairer_work script) core.repairers call.repairer call.number job = repairer_place script core known trace has.causes call.repairer call.number job is in
+      let p : CallPlace (repairer_work script) core.repairers call.repairer call.number job = repairer_place script core known trace has.causes call.repairer call.number job is in
       filter-append (mine (name.Repairer call)) (lines_of_actors (λ j. take_lines (client_name j)) core.clients) (lines_of_actors (λ j. take_lines (repairer_name j)) core.repairers)
       ∙ ap (λ l. l ++ filter (mine (name.Repairer call)) (lines_of_actors (λ j. take_lines (repairer_name j)) core.repairers)) (strangers (name.Repairer call) client_name (λ j n. refl) core.clients)
       ∙ group_lines repairer_name repairer_names call.repairer call.number core.repairers p.calling p.is_calling
@@ -200,11 +200,11 @@ module _ (script : Script) (core : Core) (known : EndKnown script core) (trace :
 
   pub exact_answers : (call : CallName) (job : Job) → job_of_call script call ≡ Some job → AreExactSince script.geometry (tries_of script) job [] (answers_to call trace)
   exact_answers (name.Client call) job is =
-      let p : Place (client_work script) core.clients call.client call.number job = client_place script core known trace has.causes call.client call.number job is in
+      let p : CallPlace (client_work script) core.clients call.client call.number job = client_place script core known trace has.causes call.client call.number job is in
       exact_given client_name client_names call.client call.number script.geometry (tries_of script) trace (actor.Client call.client) p.work.jobs p.calling (has.clients call.client p.calling p.is_calling p.work p.is_work) job p.is_job
       ((has.causes.clients call.client p.calling p.is_calling p.work p.is_work).later call.number)
   exact_answers (name.Repairer call) job is =
-      let p : Place (repairer_work script) core.repairers call.repairer call.number job = repairer_place script core known trace has.causes call.repairer call.number job is in
+      let p : CallPlace (repairer_work script) core.repairers call.repairer call.number job = repairer_place script core known trace has.causes call.repairer call.number job is in
       exact_given repairer_name repairer_names call.repairer call.number script.geometry (tries_of script) trace (actor.Repairer call.repairer) p.work.jobs p.calling (has.repairers call.repairer p.calling p.is_calling p.work p.is_work) job p.is_job
       ((has.causes.repairers call.repairer p.calling p.is_calling p.work p.is_work).later call.number)
 
