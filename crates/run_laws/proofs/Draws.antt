@@ -22,7 +22,7 @@ use Rattle.run_laws.specs.Orders.{AreGathered}
 use Rattle.run_laws.specs.WriteOrders.{LookedInOrder}
 use Rattle.run_laws.specs.ToldInSteps.{HasStep}
 use Rattle.run_laws.proofs.Histories.{AreCalm, steps_by, steps_answers, AllGo, go_past, IsPast, Parted, parted, Made, made}
-use Rattle.run_laws.proofs.Stages.{Stage, stage_act, Known, Ran, ran_now}
+use Rattle.run_laws.proofs.Stages.{CallStage, stage_act, Known, Ran, ran_now}
 
 abbrev IsDraw : Act → Type 0
 IsDraw (Act.AtDirectory DirectoryStep.Draw) = Unit {0}
@@ -172,18 +172,18 @@ module _ (g : Shape) where
   trying_looked tries note pairs (_ ∷ since) calm go h = absurd h
 
 module _ (g : Shape) (tries : ℕ) (job : Job) where
-  stage_looked : (kind : Kind) (stage : Stage) (before : List (Act × Told)) → Known g tries job kind stage before → (since : List Told) → AreCalm since
+  stage_looked : (kind : Kind) (stage : CallStage) (before : List (Act × Told)) → Known g tries job kind stage before → (since : List Told) → AreCalm since
       → AllGo (steps_by (stage_act g tries job kind stage) since) → IsDraw (stage_act g tries job kind stage since) → Looked g kind job.note (stage_act g tries job kind stage) since
-  stage_looked Kind.Put Stage.First before known since calm go h = put_looked g job.note since h
-  stage_looked Kind.Write Stage.First before known since calm go h = trying_looked g tries job.note [] since calm go h
-  stage_looked Kind.Get Stage.First before known since calm go h = absurd (read_no_draw g job.note since calm h)
-  stage_looked Kind.ReadAt Stage.First before known since calm go h = absurd (read_no_draw g job.note since calm h)
-  stage_looked Kind.Stat Stage.First before known since calm go h = absurd (single_no_draw job.note since h)
-  stage_looked Kind.Delete Stage.First before known since calm go h = absurd (single_no_draw job.note since h)
-  stage_looked Kind.Rebuild Stage.First before known since calm go h = absurd (rebuild_no_draw g job.note job.target since calm h)
-  stage_looked kind (Stage.Again pairs) before known since calm go h =
+  stage_looked Kind.Put CallStage.First before known since calm go h = put_looked g job.note since h
+  stage_looked Kind.Write CallStage.First before known since calm go h = trying_looked g tries job.note [] since calm go h
+  stage_looked Kind.Get CallStage.First before known since calm go h = absurd (read_no_draw g job.note since calm h)
+  stage_looked Kind.ReadAt CallStage.First before known since calm go h = absurd (read_no_draw g job.note since calm h)
+  stage_looked Kind.Stat CallStage.First before known since calm go h = absurd (single_no_draw job.note since h)
+  stage_looked Kind.Delete CallStage.First before known since calm go h = absurd (single_no_draw job.note since h)
+  stage_looked Kind.Rebuild CallStage.First before known since calm go h = absurd (rebuild_no_draw g job.note job.target since calm h)
+  stage_looked kind (CallStage.Again pairs) before known since calm go h =
       subst (λ k. Looked g k job.note (trying g tries job.note pairs) since) (sym known) (trying_looked g tries job.note pairs since calm go h)
-  stage_looked kind (Stage.Settling point versions) before known since calm go h = absurd (settling_no_draw point (places_of (chunk_count g) versions) since h)
+  stage_looked kind (CallStage.Settling point versions) before known since calm go h = absurd (settling_no_draw point (places_of (chunk_count g) versions) since h)
 
   -- the steps before a draw
   pub looked : (told : List Told) (history : List (Act × Told)) → Ran g tries job job.note.kind told history → next_by job.note.kind g tries job told ≡ Act.AtDirectory DirectoryStep.Draw

@@ -24,7 +24,7 @@ use Rattle.run_laws.specs.ToldInSteps.{HasStep, AreTold, act_after}
 use Rattle.run_laws.proofs.Draws.{looked}
 use Rattle.run_laws.proofs.Histories.{AreCalm, steps_by, steps_answers, AllGo, go_past, IsPast, ending_never, Parted, parted, Made, made}
 use Rattle.run_laws.proofs.Replies.{IsReply, IsRepair, reply_rare, ending_not, drawing_not, gathering_not, settling_no_repair, trying_no_repair, no_repair_by}
-use Rattle.run_laws.proofs.Stages.{Stage, stage_act, Known, Ran, ran_now, prepared, ran}
+use Rattle.run_laws.proofs.Stages.{CallStage, stage_act, Known, Ran, ran_now, prepared, ran}
 use Rattle.run_laws.proofs.StepOutcomes.{outcomes_in_steps}
 
 -- the answers are those of the steps
@@ -359,62 +359,62 @@ rebuild_is_no_write : Kind.Rebuild ≡ Kind.Write → ⊥
 rebuild_is_no_write e = cc
 
 module _ (g : Shape) (tries : ℕ) (job : Job) where
-  abbrev acts : Kind → Stage → List Told → Act
+  abbrev acts : Kind → CallStage → List Told → Act
   acts kind stage = stage_act g tries job kind stage
 
-  stage_served : (kind : Kind) → MayBeServed kind → (stage : Stage) (before : List (Act × Told)) → Known g tries job kind stage before → (point : ℕ) (since : List Told) → AreCalm since
+  stage_served : (kind : Kind) → MayBeServed kind → (stage : CallStage) (before : List (Act × Told)) → Known g tries job kind stage before → (point : ℕ) (since : List Told) → AreCalm since
       → AllGo (steps_by (acts kind stage) since) → acts kind stage since ≡ Act.Finish (Outcome.Served point) → (before ≡ []) × ServedInOrder g job point since
-  stage_served Kind.Get may Stage.First before known point since calm go e = (known, read_served g job point since calm go e)
-  stage_served Kind.ReadAt may Stage.First before known point since calm go e = (known, read_served g job point since calm go e)
-  stage_served Kind.Get may (Stage.Again pairs) before known point since calm go e = absurd (get_is_no_write known)
-  stage_served Kind.ReadAt may (Stage.Again pairs) before known point since calm go e = absurd (read_is_no_write known)
-  stage_served Kind.Get may (Stage.Settling at versions) before known point since calm go e = absurd known.writes
-  stage_served Kind.ReadAt may (Stage.Settling at versions) before known point since calm go e = absurd known.writes
+  stage_served Kind.Get may CallStage.First before known point since calm go e = (known, read_served g job point since calm go e)
+  stage_served Kind.ReadAt may CallStage.First before known point since calm go e = (known, read_served g job point since calm go e)
+  stage_served Kind.Get may (CallStage.Again pairs) before known point since calm go e = absurd (get_is_no_write known)
+  stage_served Kind.ReadAt may (CallStage.Again pairs) before known point since calm go e = absurd (read_is_no_write known)
+  stage_served Kind.Get may (CallStage.Settling at versions) before known point since calm go e = absurd known.writes
+  stage_served Kind.ReadAt may (CallStage.Settling at versions) before known point since calm go e = absurd known.writes
   stage_served kind may stage before known point since calm go e = absurd may
 
   -- the kind of a call that makes a rebuild's last steps, and its stage
-  repairs : (kind : Kind) (stage : Stage) (before : List (Act × Told)) → Known g tries job kind stage before → (since : List Told) → IsRepair (acts kind stage since)
+  repairs : (kind : Kind) (stage : CallStage) (before : List (Act × Told)) → Known g tries job kind stage before → (since : List Told) → IsRepair (acts kind stage since)
       → (kind ≡ Kind.Rebuild) × (before ≡ []) × ((act : Act) → acts kind stage since ≡ act → next_rebuild g job.note job.target since ≡ act)
-  repairs Kind.Rebuild Stage.First before known since h = (refl, known, λ act e. e)
-  repairs Kind.Put Stage.First before known since h = absurd (no_repair_by g Kind.Put (λ e. cc) tries job since h)
-  repairs Kind.Write Stage.First before known since h = absurd (no_repair_by g Kind.Write (λ e. cc) tries job since h)
-  repairs Kind.Get Stage.First before known since h = absurd (no_repair_by g Kind.Get (λ e. cc) tries job since h)
-  repairs Kind.ReadAt Stage.First before known since h = absurd (no_repair_by g Kind.ReadAt (λ e. cc) tries job since h)
-  repairs Kind.Stat Stage.First before known since h = absurd (no_repair_by g Kind.Stat (λ e. cc) tries job since h)
-  repairs Kind.Delete Stage.First before known since h = absurd (no_repair_by g Kind.Delete (λ e. cc) tries job since h)
-  repairs kind (Stage.Again pairs) before known since h = absurd (trying_no_repair g tries job.note pairs since h)
-  repairs kind (Stage.Settling at versions) before known since h = absurd (settling_no_repair at (places_of (chunk_count g) versions) since h)
+  repairs Kind.Rebuild CallStage.First before known since h = (refl, known, λ act e. e)
+  repairs Kind.Put CallStage.First before known since h = absurd (no_repair_by g Kind.Put (λ e. cc) tries job since h)
+  repairs Kind.Write CallStage.First before known since h = absurd (no_repair_by g Kind.Write (λ e. cc) tries job since h)
+  repairs Kind.Get CallStage.First before known since h = absurd (no_repair_by g Kind.Get (λ e. cc) tries job since h)
+  repairs Kind.ReadAt CallStage.First before known since h = absurd (no_repair_by g Kind.ReadAt (λ e. cc) tries job since h)
+  repairs Kind.Stat CallStage.First before known since h = absurd (no_repair_by g Kind.Stat (λ e. cc) tries job since h)
+  repairs Kind.Delete CallStage.First before known since h = absurd (no_repair_by g Kind.Delete (λ e. cc) tries job since h)
+  repairs kind (CallStage.Again pairs) before known since h = absurd (trying_no_repair g tries job.note pairs since h)
+  repairs kind (CallStage.Settling at versions) before known since h = absurd (settling_no_repair at (places_of (chunk_count g) versions) since h)
 
   -- a rebuild has one stage
-  first_alone : (stage : Stage) (before : List (Act × Told)) → Known g tries job Kind.Rebuild stage before → (stage ≡ Stage.First) × (before ≡ [])
-  first_alone Stage.First before known = (refl, known)
-  first_alone (Stage.Again pairs) before known = absurd (rebuild_is_no_write known)
-  first_alone (Stage.Settling at versions) before known = absurd known.writes
+  first_alone : (stage : CallStage) (before : List (Act × Told)) → Known g tries job Kind.Rebuild stage before → (stage ≡ CallStage.First) × (before ≡ [])
+  first_alone CallStage.First before known = (refl, known)
+  first_alone (CallStage.Again pairs) before known = absurd (rebuild_is_no_write known)
+  first_alone (CallStage.Settling at versions) before known = absurd known.writes
 
   module _ (point : ℕ) (given : Reply) where
     abbrev reply_act : Act
     reply_act = Act.Finish (Outcome.Answered point given)
 
     -- the steps of the stage that answers, after those before it
-    stage_answered : (kind : Kind) → (kind ≡ Kind.Rebuild → ⊥) → (stage : Stage) (before : List (Act × Told)) → Known g tries job kind stage before → (since : List Told) → AreCalm since
+    stage_answered : (kind : Kind) → (kind ≡ Kind.Rebuild → ⊥) → (stage : CallStage) (before : List (Act × Told)) → Known g tries job kind stage before → (since : List Told) → AreCalm since
         → AllGo (steps_by (acts kind stage) since) → acts kind stage since ≡ reply_act
         → AnsweredByLook job point given (before ++ steps_by (acts kind stage) since) ⊎ ((given ≡ reply.Done) × SettledInOrder g point (before ++ steps_by (acts kind stage) since))
-    stage_answered Kind.Put other Stage.First before known since calm go e =
+    stage_answered Kind.Put other CallStage.First before known since calm go e =
         inl (record { before = before; steps_are = ap (λ s. before ++ s) (put_answered g point given job.note since calm go e) })
-    stage_answered Kind.Write other Stage.First before known since calm go e =
+    stage_answered Kind.Write other CallStage.First before known since calm go e =
         inl (record { before = before; steps_are = ap (λ s. before ++ s) (trying_answered g point given tries job.note [] since calm go e) })
-    stage_answered Kind.Get other Stage.First before known since calm go e =
+    stage_answered Kind.Get other CallStage.First before known since calm go e =
         inl (record { before = before; steps_are = ap (λ s. before ++ s) (read_answered g point given job.note since go e) })
-    stage_answered Kind.ReadAt other Stage.First before known since calm go e =
+    stage_answered Kind.ReadAt other CallStage.First before known since calm go e =
         inl (record { before = before; steps_are = ap (λ s. before ++ s) (read_answered g point given job.note since go e) })
-    stage_answered Kind.Stat other Stage.First before known since calm go e =
+    stage_answered Kind.Stat other CallStage.First before known since calm go e =
         inl (record { before = before; steps_are = ap (λ s. before ++ s) (single_answered g point given job.note since go e) })
-    stage_answered Kind.Delete other Stage.First before known since calm go e =
+    stage_answered Kind.Delete other CallStage.First before known since calm go e =
         inl (record { before = before; steps_are = ap (λ s. before ++ s) (single_answered g point given job.note since go e) })
-    stage_answered Kind.Rebuild other Stage.First before known since calm go e = absurd (other refl)
-    stage_answered kind other (Stage.Again pairs) before known since calm go e =
+    stage_answered Kind.Rebuild other CallStage.First before known since calm go e = absurd (other refl)
+    stage_answered kind other (CallStage.Again pairs) before known since calm go e =
         inl (record { before = before; steps_are = ap (λ s. before ++ s) (trying_answered g point given tries job.note pairs since calm go e) })
-    stage_answered kind other (Stage.Settling at versions) before known since calm go e =
+    stage_answered kind other (CallStage.Settling at versions) before known since calm go e =
         let places : List (ℕ × ℕ) = places_of (chunk_count g) versions in
         let settles : List (Act × Told) = steps_by (settling at (places_of (chunk_count g) versions)) since in
         let reply : (at ≡ point) × (given ≡ reply.Done) = settles_reply g point given at (places_of (chunk_count g) versions) since e in
@@ -494,7 +494,7 @@ module _ (g : Shape) (max tries : ℕ) (job : Job) (answers : List Told) (are_to
         → (job.note.kind ≡ Kind.Rebuild) × (version : ℕ) × (epoch : ℕ) × ConfirmedInOrder g job version answers (Told.Placed epoch ∷ Told.Ended ∷ [])
     rebuilt e =
         let kind : job.note.kind ≡ Kind.Rebuild = (outcomes_in_steps g max tries job).kinds kept Outcome.Rebuilt e in
-        let first : (r.stage ≡ Stage.First) × (r.before ≡ []) = first_alone g tries job r.stage r.before (subst (λ k. Known g tries job k r.stage r.before) kind r.known) in
+        let first : (r.stage ≡ CallStage.First) × (r.before ≡ []) = first_alone g tries job r.stage r.before (subst (λ k. Known g tries job k r.stage r.before) kind r.known) in
         let next : stage_act g tries job job.note.kind r.stage ≡ next_rebuild g job.note job.target =
         ap (λ k. stage_act g tries job k r.stage) kind ∙ ap (stage_act g tries job Kind.Rebuild) first.0 in
         let all : (version : ℕ) × (epoch : ℕ) × ConfirmedInOrder g job version r.since (Told.Placed epoch ∷ Told.Ended ∷ []) =

@@ -76,16 +76,16 @@ none_marked (Told.Changed old new ∷ told) base newer = none_marked told base n
 none_marked (_ ∷ told) base newer = none_marked told base newer
 
 -- ---- stages
-pub data Stage : Type 0 where
-  First : Stage
-  Again : (pairs : List (ℕ × ℕ)) → Stage
-  Settling : (point : ℕ) (versions : List ℕ) → Stage
+pub data CallStage : Type 0 where
+  First : CallStage
+  Again : (pairs : List (ℕ × ℕ)) → CallStage
+  Settling : (point : ℕ) (versions : List ℕ) → CallStage
 
 -- what is kept of the versions from before the stage
-abbrev kept_versions : Stage → List Told
-kept_versions Stage.First = []
-kept_versions (Stage.Again pairs) = []
-kept_versions (Stage.Settling point versions) = Told.Versions versions ∷ []
+abbrev kept_versions : CallStage → List Told
+kept_versions CallStage.First = []
+kept_versions (CallStage.Again pairs) = []
+kept_versions (CallStage.Settling point versions) = Told.Versions versions ∷ []
 
 calm_of : (answer : Told) → IsPlain answer → IsKept answer → IsCalm answer
 calm_of Told.Gathered plain kept = plain
@@ -99,10 +99,10 @@ committed_rows (Act.AtDirectory (DirectoryStep.Commit placed)) h = (placed, refl
 committed_rows act h = absurd h
 
 module _ (g : Shape) (tries : ℕ) (job : Job) where
-  abbrev pub stage_act : Kind → Stage → List Told → Act
-  stage_act kind Stage.First = next_by kind g tries job
-  stage_act kind (Stage.Again pairs) = trying g tries job.note pairs
-  stage_act kind (Stage.Settling point versions) = settling point (places_of (chunk_count g) versions)
+  abbrev pub stage_act : Kind → CallStage → List Told → Act
+  stage_act kind CallStage.First = next_by kind g tries job
+  stage_act kind (CallStage.Again pairs) = trying g tries job.note pairs
+  stage_act kind (CallStage.Settling point versions) = settling point (places_of (chunk_count g) versions)
 
   -- before the settles the call has prepared and committed
   pub record HasCommitted (kind : Kind) (point : ℕ) (versions : List ℕ) (before : List (Act × Told)) : Type 0 where
@@ -114,14 +114,14 @@ module _ (g : Shape) (tries : ℕ) (job : Job) where
     pub is : before ≡ front ++ (Act.AtDirectory (DirectoryStep.Commit placed), Told.Done point) ∷ []
 
   -- what is known of the steps before a stage
-  abbrev pub Known : Kind → Stage → List (Act × Told) → Type 0
-  Known kind Stage.First before = before ≡ []
-  Known kind (Stage.Again pairs) before = kind ≡ Kind.Write
-  Known kind (Stage.Settling point versions) before = HasCommitted kind point versions before
+  abbrev pub Known : Kind → CallStage → List (Act × Told) → Type 0
+  Known kind CallStage.First before = before ≡ []
+  Known kind (CallStage.Again pairs) before = kind ≡ Kind.Write
+  Known kind (CallStage.Settling point versions) before = HasCommitted kind point versions before
 
   -- what is kept of the answers to a call stands for those since a stage began; and the steps so far
   pub record Ran (kind : Kind) (told : List Told) (history : List (Act × Told)) : Type 0 where
-    pub stage : Stage
+    pub stage : CallStage
     pub before : List (Act × Told)
     pub since : List Told
     pub calm : AreCalm since
@@ -136,17 +136,17 @@ module _ (g : Shape) (tries : ℕ) (job : Job) where
       ap (next_by kind g tries job) (sym (append-nil told)) ∙ ran.same [] tt ∙ ap (stage_act kind ran.stage) (append-nil ran.since)
 
   -- ---- at a commit
-  stage_drawn : (kind : Kind) (stage : Stage) (placed : List (List Placement)) (since : List Told) → AreCalm since → stage_act kind stage since ≡ Act.AtDirectory (DirectoryStep.Commit placed)
+  stage_drawn : (kind : Kind) (stage : CallStage) (placed : List (List Placement)) (since : List Told) → AreCalm since → stage_act kind stage since ≡ Act.AtDirectory (DirectoryStep.Commit placed)
       → Drawn g (stage_act kind stage) placed since × (kept_versions stage ≡ [])
-  stage_drawn Kind.Put Stage.First placed since calm e = (put_drawn g job.note placed since e, refl)
-  stage_drawn Kind.Write Stage.First placed since calm e = (trying_drawn g tries job.note [] placed since calm e, refl)
-  stage_drawn Kind.Get Stage.First placed since calm e = absurd (read_no_commit g job.note since (subst AtCommit (sym e) tt))
-  stage_drawn Kind.ReadAt Stage.First placed since calm e = absurd (read_no_commit g job.note since (subst AtCommit (sym e) tt))
-  stage_drawn Kind.Stat Stage.First placed since calm e = absurd (single_no_commit job.note since (subst AtCommit (sym e) tt))
-  stage_drawn Kind.Delete Stage.First placed since calm e = absurd (single_no_commit job.note since (subst AtCommit (sym e) tt))
-  stage_drawn Kind.Rebuild Stage.First placed since calm e = absurd (rebuild_no_commit g job.note job.target since (subst AtCommit (sym e) tt))
-  stage_drawn kind (Stage.Again pairs) placed since calm e = (trying_drawn g tries job.note pairs placed since calm e, refl)
-  stage_drawn kind (Stage.Settling point versions) placed since calm e =
+  stage_drawn Kind.Put CallStage.First placed since calm e = (put_drawn g job.note placed since e, refl)
+  stage_drawn Kind.Write CallStage.First placed since calm e = (trying_drawn g tries job.note [] placed since calm e, refl)
+  stage_drawn Kind.Get CallStage.First placed since calm e = absurd (read_no_commit g job.note since (subst AtCommit (sym e) tt))
+  stage_drawn Kind.ReadAt CallStage.First placed since calm e = absurd (read_no_commit g job.note since (subst AtCommit (sym e) tt))
+  stage_drawn Kind.Stat CallStage.First placed since calm e = absurd (single_no_commit job.note since (subst AtCommit (sym e) tt))
+  stage_drawn Kind.Delete CallStage.First placed since calm e = absurd (single_no_commit job.note since (subst AtCommit (sym e) tt))
+  stage_drawn Kind.Rebuild CallStage.First placed since calm e = absurd (rebuild_no_commit g job.note job.target since (subst AtCommit (sym e) tt))
+  stage_drawn kind (CallStage.Again pairs) placed since calm e = (trying_drawn g tries job.note pairs placed since calm e, refl)
+  stage_drawn kind (CallStage.Settling point versions) placed since calm e =
       absurd (settling_no_commit point (places_of (chunk_count g) versions) since (subst AtCommit (sym e) tt))
 
   pub prepared : (kind : Kind) (told : List Told) (history : List (Act × Told)) (ran : Ran kind told history) (placed : List (List Placement))
@@ -228,7 +228,7 @@ module _ (g : Shape) (tries : ℕ) (job : Job) where
       let both : (p : PreparedInOrder g rows.0 history) × (filter is_versions told ≡ Told.Versions p.versions ∷ []) = prepared this told history ran rows.0 rows.1 in
       let writes : MayWrite this = commits_writing this told at in
       record {
-        stage = Stage.Settling point both.0.versions;
+        stage = CallStage.Settling point both.0.versions;
         before = history ++ (act_now told, Told.Done point) ∷ [];
         since = [];
         calm = tt;
@@ -251,7 +251,7 @@ module _ (g : Shape) (tries : ℕ) (job : Job) where
       → Ran this (filter is_changed told ++ Told.Changed base newer ∷ []) (history ++ (act_now told, Told.Changed base newer) ∷ [])
   ran_again told history base newer write step ran =
       record {
-        stage = Stage.Again (changes_of told ++ (base, newer) ∷ []);
+        stage = CallStage.Again (changes_of told ++ (base, newer) ∷ []);
         before = history ++ (act_now told, Told.Changed base newer) ∷ [];
         since = [];
         calm = tt;
@@ -301,7 +301,7 @@ module _ (g : Shape) (max tries : ℕ) (job : Job) where
   ran answers h =
       ran_since [] [] answers h
       (record {
-        stage = Stage.First;
+        stage = CallStage.First;
         before = [];
         since = [];
         calm = tt;
