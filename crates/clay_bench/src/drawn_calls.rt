@@ -9,7 +9,7 @@ const STRIPE_LEN: u32 = 8;
 
 /// What a call does.
 #[derive(Clone, Copy)]
-pub enum Kind {
+pub enum BenchCall {
     /// It puts so many stripes.
     Put,
     /// It writes over the stripe that so many are before.
@@ -23,7 +23,7 @@ pub enum Kind {
 /// A call of the object with this number.
 #[derive(Clone, Copy)]
 pub struct Wanted {
-    pub kind: Kind,
+    pub kind: BenchCall,
     pub object: u32,
     pub stripes: u32,
 }
@@ -47,21 +47,21 @@ pub fn call(alloc: Global, wanted: Wanted) -> Result<Call, Refusal> {
     let name = name(alloc, wanted.object)?;
     let offset = wanted.stripes.saturating_mul(STRIPE_LEN);
     Ok(match wanted.kind {
-        Kind::Put => Call::Put {
+        BenchCall::Put => Call::Put {
             name,
             content: content(offset),
         },
-        Kind::Write => Call::Write {
+        BenchCall::Write => Call::Write {
             name,
             offset,
             content: content(STRIPE_LEN),
         },
-        Kind::Read => Call::ReadAt {
+        BenchCall::Read => Call::ReadAt {
             name,
             offset,
             length: STRIPE_LEN,
         },
-        Kind::Stat => Call::Stat { name },
-        Kind::Delete => Call::Delete { name },
+        BenchCall::Stat => Call::Stat { name },
+        BenchCall::Delete => Call::Delete { name },
     })
 }

@@ -1,6 +1,6 @@
 //! The steps that are timed.
 
-use crate::drawn_calls::{Kind, Wanted, call};
+use crate::drawn_calls::{BenchCall, Wanted, call};
 use dir_walks::test_caller::{Refusal, Step};
 use dir_walks::test_store::Store;
 use std::alloc::Global;
@@ -91,16 +91,16 @@ fn repeat_new(
 fn next(measured: Measured, size: u32, step: u32) -> Wanted {
     let Measured::Renew = measured else {
         return Wanted {
-            kind: Kind::Write,
+            kind: BenchCall::Write,
             object: 0,
             stripes: size.saturating_add(step),
         };
     };
     Wanted {
         kind: if step % 2 == 0 {
-            Kind::Delete
+            BenchCall::Delete
         } else {
-            Kind::Put
+            BenchCall::Put
         },
         object: (step / 2).checked_rem(size).unwrap_or(0),
         stripes: 1,
@@ -126,7 +126,7 @@ fn series(
 fn put_all(alloc: Global, store: &mut Store<'_>, objects: u32) -> Result<u64, Refusal> {
     for object in 0..objects {
         let put = Wanted {
-            kind: Kind::Put,
+            kind: BenchCall::Put,
             object,
             stripes: 1,
         };
@@ -136,7 +136,7 @@ fn put_all(alloc: Global, store: &mut Store<'_>, objects: u32) -> Result<u64, Re
 }
 
 // A call of the only object.
-fn only(kind: Kind, stripes: u32) -> Wanted {
+fn only(kind: BenchCall, stripes: u32) -> Wanted {
     Wanted {
         kind,
         object: 0,
@@ -153,18 +153,18 @@ pub fn prepare(
 ) -> Result<u64, Refusal> {
     match measured {
         Measured::Renew => put_all(alloc, store, size),
-        Measured::Stat => repeat_new(alloc, store, only(Kind::Stat, 0), size),
-        _ => repeat_new(alloc, store, only(Kind::Put, size), 1),
+        Measured::Stat => repeat_new(alloc, store, only(BenchCall::Stat, 0), size),
+        _ => repeat_new(alloc, store, only(BenchCall::Put, size), 1),
     }
 }
 
 // The call that is repeated, of an object of so many stripes.
 fn repeated(measured: Measured, stripes: u32) -> Wanted {
     match measured {
-        Measured::Write => only(Kind::Write, stripes / 2),
-        Measured::Read => only(Kind::Read, stripes / 2),
-        Measured::Stat => only(Kind::Stat, 0),
-        _ => only(Kind::Put, stripes),
+        Measured::Write => only(BenchCall::Write, stripes / 2),
+        Measured::Read => only(BenchCall::Read, stripes / 2),
+        Measured::Stat => only(BenchCall::Stat, 0),
+        _ => only(BenchCall::Put, stripes),
     }
 }
 
