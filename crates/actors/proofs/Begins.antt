@@ -26,7 +26,7 @@ use Rattle.call_machine.specs.Calls.{MachineOf, first_call, tries_in, KnowsOldOf
 use Rattle.call_steps.specs.CallerCalls.{ended_of}
 use Rattle.call_steps.specs.declared.caller_calls.EndedCall.{EndedCall}
 use Rattle.world_laws.specs.ActorAfter.{Begins}
-use Rattle.actors.specs.Turns.{GoesOn}
+use Rattle.call_machine.specs.Going.{GoesOn}
 use Rattle.actors.specs.Callers.{PartOf, CallerOf, IsPartOf, calls_of, work_of, who_of, asked_at}
 use Rattle.actors.specs.Beginning.{MayBeAsked, MayTake, HasBegun, MayGoOn}
 use Rattle.actors.specs.Steps.{BeginsCall}

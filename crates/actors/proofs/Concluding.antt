@@ -18,7 +18,7 @@ use Rattle.call_machine.specs.Kinds.{Machine, machine_of}
 use Rattle.call_machine.specs.Calls.{MachineOf}
 use Rattle.call_steps.specs.CallerCalls.{ended_of}
 use Rattle.call_steps.specs.declared.caller_calls.EndedCall.{EndedCall}
-use Rattle.actors.specs.Turns.{GoesOn}
+use Rattle.call_machine.specs.Going.{GoesOn}
 use Rattle.actors.specs.Owing.{AreServed, left_by}
 use Rattle.actors.specs.Concluded.{IsConcluded}
 use Rattle.actors.specs.Inside.{served_of}

@@ -1,21 +1,16 @@
 -- The bytes that a call reads and the stamps that it draws, in a turn.
 use Rattle.std.proofs.Common.{◌≡◌, ℕ, Bool, false, List, [], ◌++◌, refl, sym, ap, ◌∙◌}
 use Rattle.std.proofs.lemmas.List.{append-nil}
-use Rattle.std.specs.Prelude.{◌&&◌}
 use Rattle.store_core.specs.Act.{Act, ServerStep}
 use Rattle.store_map.specs.declared.call.Call.{Call}
 use Rattle.version_seal.specs.Entry.{StampOf}
 use Rattle.stripe_stamps.specs.Sealed.{Sealed}
 use Rattle.call_steps.specs.declared.need.Need.TheVariants as need
-use Rattle.call_steps.specs.CallOf.{CallOf, act_of}
+use Rattle.call_steps.specs.CallOf.{act_of}
 use Rattle.call_steps.specs.Steps.{need_of}
 use Rattle.call_steps.proofs.Needs.{needs_tell_acts}
 use Rattle.call_machine.specs.Kinds.{Asked, Machine, client_machine, machine_of}
 use Rattle.call_machine.specs.Calls.{read_by, stamps_by, MachineOf, drawn_in, drawn_for, drawn_by, owed_in, owed_by}
-
--- a coding that is due says whether memory was wanting
-pub owed_coded : {P : Type 0} (c : CallOf) (coding : Bool) → need_of c ≡ need.Coder → (coding ≡ false → P) → (c.due && coding) ≡ false → P
-owed_coded c coding needs owed e = owed (ap (λ (due : Bool). due && coding) (sym (needs_tell_acts.coder c needs)) ∙ e)
 
 -- a step at a server changes neither
 module _ (short : Bool) (d : Sealed) (c : MachineOf) (server : ℕ) (step : ServerStep) (act : act_of c.call ≡ Act.AtServer server step) where

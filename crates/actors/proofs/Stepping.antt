@@ -17,6 +17,7 @@ use Rattle.call_steps.specs.declared.need.Need.TheVariants as need
 use Rattle.call_steps.specs.CallOf.{CallOf, act_of}
 use Rattle.call_steps.specs.Steps.{need_of, at_server_by, coded}
 use Rattle.call_machine.specs.Kinds.{machine_of, IfPatches}
+use Rattle.call_machine.specs.Going.{GoesOn}
 use Rattle.call_machine.specs.Calls.{ArePadded, MachineOf, KnowsOldOf, drawn_by, owed_by}
 use Rattle.call_machine.proofs.Machines.{if_patches}
 use Rattle.call_steps.specs.CallerCalls.{ended_of}
@@ -28,7 +29,7 @@ use Rattle.world_laws.specs.World.{DoingOf}
 use Rattle.world_laws.specs.Known.{calling_of}
 use Rattle.world_laws.specs.ActorAfter.{actor_after_by}
 use Rattle.world_laws.specs.Tokens.{token_of}
-use Rattle.actors.specs.Turns.{IsMadeAt, IsSameCall, GoesOn, places_of}
+use Rattle.actors.specs.Turns.{IsMadeAt, IsSameCall, places_of}
 use Rattle.actors.specs.Callers.{PartOf, CallerOf, IsOfScript, Knows, IsPaddedFor, work_of, who_of, asked_at}
 use Rattle.actors.specs.Owing.{left_by}
 use Rattle.actors.specs.Steps.{BeginsCall, IsCodedCall, IsCoded, IsReady, IsReadyIn, Concludes, MadeAtDirectory, MadeAtServer, MakesStep, in_work}

@@ -1,7 +1,7 @@
--- A turn of a call: its coding, its step among the servers, and what stays.
-use Rattle.std.proofs.Common.{◌≡◌, ℕ, zero, suc, ◌<◌, Bool, true, false, if◌then◌else◌, List, [], ◌∷◌, length, map, get_or, set, slice_get, length-set, Some, refl, sym, ap, subst, ◌∙◌, arith, true≢false}
+-- A turn of a call: its step among the servers, and what stays.
+use Rattle.std.proofs.Common.{◌≡◌, ℕ, zero, suc, ◌<◌, Bool, true, false, if◌then◌else◌, List, [], ◌∷◌, length, map, get_or, set, slice_get, length-set, Some, refl, sym, ap, subst, ◌∙◌, arith}
 use Rattle.std.proofs.lemmas.Option.{same_Some, none-some}
-use Rattle.store_core.specs.Act.{Act, DirectoryStep}
+use Rattle.store_core.specs.Act.{Act}
 use Rattle.store_core.specs.Told.{Told}
 use Rattle.store_core.specs.Directory.{Directory}
 use Rattle.store_core.specs.Server.{Server, raised_by}
@@ -14,30 +14,9 @@ use Rattle.dir_parts.proofs.Entries.{map-set, slice_get-map}
 use Rattle.call_steps.specs.declared.need.Need.{Need}
 use Rattle.call_steps.specs.declared.need.Need.TheVariants as need
 use Rattle.call_steps.specs.CallOf.{CallOf, act_of}
-use Rattle.call_steps.specs.Steps.{coded, need_by, need_of, at_directory_by, at_server_by, stepped_at_server, IsDueInPass}
+use Rattle.call_steps.specs.Steps.{coded, need_of, at_directory_by, at_server_by, stepped_at_server}
 use Rattle.call_steps.specs.Ready.{ready}
-use Rattle.call_steps.proofs.Codings.{acts_stand}
-use Rattle.call_steps.proofs.Needs.{needs_tell_acts, is_coder}
-use Rattle.actors.specs.Turns.{AreServers, IsMadeAt, IsMadeAtServer, HasPlace, IsSameCall}
-
--- ---- the coding
--- a coding that was due was before a step
-place_by : (act : Act) → need_by act true ≡ need.Coder → HasPlace (need_by act false)
-place_by (Act.AtDirectory step) e = tt
-place_by (Act.AtServer server step) e = tt
-place_by (Act.Finish outcome) e = absurd (true≢false (sym (ap is_coder e)))
-
-coded_by : (c : CallOf) (coding : Bool) → c.due ≡ true → IsDueInPass c → need_of c ≡ need.Coder → HasPlace (need_of (coded coding c))
-coded_by c false due in_pass e = place_by (act_of c) (ap (need_by (act_of c)) (sym due) ∙ e)
-coded_by c true due in_pass e =
-    let same : act_of (coded true c) ≡ Act.AtDirectory DirectoryStep.End = subst (λ (b : Bool). act_of (if b then coded true c else c) ≡ Act.AtDirectory DirectoryStep.End) due (acts_stand.wanting c due in_pass) in
-    subst (λ (act : Act). HasPlace (need_by act false)) (sym same) tt
-
-pub coded_place : (c : CallOf) (coding : Bool) → IsDueInPass c → need_of c ≡ need.Coder → HasPlace (need_of (coded coding c))
-coded_place c coding in_pass e = coded_by c coding (needs_tell_acts.coder c e) in_pass e
-
-pub coded_ready : (c : CallOf) (coding : Bool) → need_of c ≡ need.Coder → ready coding c ≡ coded coding c
-coded_ready c coding e = ap (λ (b : Bool). if b then coded coding c else c) (needs_tell_acts.coder c e)
+use Rattle.actors.specs.Turns.{AreServers, IsMadeAt, IsMadeAtServer, IsSameCall}
 
 -- ---- one server of some changes
 -- what holds of each element with its place holds after a change that keeps it there

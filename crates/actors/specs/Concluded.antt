@@ -10,7 +10,7 @@ use Rattle.call_steps.specs.declared.caller_calls.EndedCall.{EndedCall}
 use Rattle.call_steps.specs.CallerCalls.{ended_of}
 use Rattle.world_laws.specs.World.{ActorOf, steps_of}
 use Rattle.world_laws.specs.ActorAfter.{actor_after}
-use Rattle.actors.specs.Turns.{GoesOn}
+use Rattle.call_machine.specs.Going.{GoesOn}
 use Rattle.actors.specs.Owing.{AreServed, left_by}
 use Rattle.actors.specs.Inside.{doing_by, served_of, HasEither}
 

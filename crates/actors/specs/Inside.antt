@@ -10,7 +10,7 @@ use Rattle.call_steps.specs.declared.caller_calls.EndedCall.{EndedCall}
 use Rattle.call_steps.specs.CallerCalls.{ended_of}
 use Rattle.world_laws.specs.Served.{bytes_in}
 use Rattle.world_laws.specs.World.{DoingOf}
-use Rattle.actors.specs.Turns.{GoesOn}
+use Rattle.call_machine.specs.Going.{GoesOn}
 use Rattle.actors.specs.Callers.{PartOf, CallerOf, calls_of, asked_at}
 use Rattle.actors.specs.declared.part.Part.{Part}
 use Rattle.actors.specs.declared.part.Part.TheVariants as part

@@ -15,7 +15,7 @@ use Rattle.call_machine.specs.Calls.{ArePadded, MachineOf, drawn_by, owed_by, Kn
 use Rattle.world_laws.specs.World.{DoingOf, steps_of}
 use Rattle.world_laws.specs.ActorAfter.{IsCallBefore, actor_after}
 use Rattle.world_laws.specs.Tokens.{token_of}
-use Rattle.actors.specs.Turns.{HasPlace, GoesOn}
+use Rattle.call_machine.specs.Going.{HasPlace, GoesOn}
 use Rattle.actors.specs.Callers.{CallerOf, IsOfScript, Knows, work_of, asked_at}
 use Rattle.actors.specs.Owing.{AreServed, left_by, owed_now}
 

@@ -1,5 +1,5 @@
 -- A turn of a call in work: a coding, if one is due, and a step.
-use Rattle.std.specs.Prelude.{◌≡◌, ⊤, ℕ, Bool, List, length, map, Some}
+use Rattle.std.specs.Prelude.{◌≡◌, ℕ, Bool, List, length, map, Some}
 use Rattle.std.specs.List.{slice_get}
 use Rattle.clay_grid.specs.Shape.{chunk_count}
 use Rattle.store_core.specs.Lists.{change_at}
@@ -43,17 +43,6 @@ abbrev pub IsMadeAt : Need → Bool → Bool → CallOf → Places → CallOf �
 IsMadeAt need.Directory short due c p after q = IsMadeAtDirectory short due c p after q
 IsMadeAt (need.Server server) short due c p after q = IsMadeAtServer server short due c p after q
 IsMadeAt _ short due c p after q = ⊥
-
--- a call that has a step next, without a coding before it
-abbrev pub HasPlace : Need → Type 0
-HasPlace need.Directory = ⊤
-HasPlace (need.Server server) = ⊤
-HasPlace _ = ⊥
-
--- a call that isn't over
-abbrev pub GoesOn : Need → Type 0
-GoesOn need.Finished = ⊥
-GoesOn _ = ⊤
 
 -- a whole turn: whether memory was wanting in its coding and in its step, and whether a coding is due after it
 pub record IsTurn (c : CallOf) (p : Places) (after : CallOf) (q : Places) : Type 0 where

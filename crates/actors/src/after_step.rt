@@ -9,7 +9,7 @@ ghost use Rattle.call_machine.specs.Calls.{MachineOf};
 ghost use Rattle.call_steps.specs.CallerCalls.{ended_of};
 ghost use Rattle.world_laws.specs.World.{DoingOf, ActorOf};
 ghost use Rattle.world_laws.specs.ActorAfter.{actor_after};
-ghost use Rattle.actors.specs.Turns.{GoesOn};
+ghost use Rattle.call_machine.specs.Going.{GoesOn};
 ghost use Rattle.actors.specs.Owing.{AreServed, left_by};
 ghost use Rattle.actors.specs.Inside.{served_of};
 ghost use Rattle.actors.specs.Concluded.{IsConcluded};

@@ -1,42 +1,20 @@
 //! The coding and the step of a caller's call.
-ghost use Rattle.std.specs.Prelude.{◌≡◌, ◌&&◌, false, is_some, IsTrue, IfSome};
+ghost use Rattle.std.specs.Prelude.{◌≡◌, is_some, IsTrue, IfSome};
 ghost use Rattle.chunk_server.specs.State.{IsSame};
-ghost use Rattle.stripe_stamps.specs.Sealed.{Sealed};
 ghost use Rattle.chunk_server.specs.Core.{core_of};
 ghost use Rattle.call_steps.specs.Hearing.{IsToldHere, IsToldThere};
-ghost use Rattle.call_steps.specs.Steps.{need_of, HoldsItsPass, IsDueInPass};
-ghost use Rattle.call_steps.specs.Ready.{ready};
-ghost use Rattle.call_machine.specs.Calls.{KnowsOldOf};
-ghost use Rattle.actors.specs.Turns.{HasPlace, GoesOn};
+ghost use Rattle.call_steps.specs.Steps.{need_of};
+ghost use Rattle.call_machine.specs.Going.{GoesOn};
 ghost use Rattle.actors.specs.Steps.{GoesToDirectory, GoesToServer, IsCoded, IsMadeThere, IsMadeHere};
 
 use call_machine::CallMachine;
-use call_steps::{DirectoryAnswer, Need, ServerAnswer};
+use call_steps::{DirectoryAnswer, ServerAnswer};
 use chunk_server::Server;
 use clay_model::Coder;
 use std::snapshot::Snapshot;
 use std::thread::Threads;
 use stripe_dir::Directory;
 use version_seal::Book;
-
-// The coding before the next step, if one is due: whether memory was wanting in it.
-fn call_on_coder<R: Threads + Sync, C: Coder>(rt: &R, coder: &C, call: &mut CallMachine) -> bool
-    requires { GoesOn (need_of call.old.call) }
-    ensures short { result ≡ (call.old.call.due && call.new.call.coding) }
-    ensures ready { call.new.call ≡ ready call.new.call.coding call.old.call }
-    ensures place { HasPlace (need_of call.new.call) }
-    ensures in_pass { IsDueInPass call.old.call }
-    ensures pass { HoldsItsPass call.old.call }
-    ensures asked { call.new.asked ≡ call.old.asked }
-    ensures owed { (call.old.call.due && call.new.call.coding) ≡ false → call.new.owed ≡ call.old.owed }
-    ensures knows { (d : Sealed) → KnowsOldOf d call.old → KnowsOldOf d call.new }
-{
-    if matches!(call.need(), Need::Coder) {
-        call.on_coder(rt, coder);
-        return call.coding_was_short();
-    }
-    false
-}
 
 /// The coding before the next step of the call in work, if one is due: whether memory was wanting in
 /// it.
@@ -50,7 +28,7 @@ pub(crate) fn on_coder<R: Threads + Sync, C: Coder>(
     ensures { IsCoded result call.old call.new }
 {
     match call {
-        Some(call) => call_on_coder(rt, coder, call),
+        Some(call) => call.ready(rt, coder),
         None => unreachable!(),
     }
 }

@@ -6,3 +6,4 @@ pub mod Acts
 pub mod Shorts
 pub mod Stamped
 pub mod Owing
+pub mod Coding

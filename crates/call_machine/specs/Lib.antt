@@ -1,5 +1,6 @@
 pub mod Kinds
 pub mod Calls
+pub mod Going
 pub mod Inside
 pub mod Ends
 pub mod Pinned

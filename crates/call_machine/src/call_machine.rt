@@ -1,5 +1,5 @@
 //! A call in work, of any kind: of a client, or a rebuild of a repairer.
-ghost use Rattle.std.specs.Prelude.{◌≡◌, ◌<◌, ◌≤◌, ◌++◌, ℕ, List, false};
+ghost use Rattle.std.specs.Prelude.{◌≡◌, ◌<◌, ◌≤◌, ◌&&◌, ◌++◌, ℕ, List, false};
 ghost use Rattle.std.specs.Option.{option_map};
 ghost use Rattle.clay_grid.specs.Shape.{chunk_count};
 ghost use Rattle.store_core.specs.Act.{Act as CoreAct};
@@ -15,9 +15,11 @@ ghost use Rattle.call_steps.specs.Steps.{need_of, IsServerBelow, LeadsTo, LeadsT
 ghost use Rattle.call_steps.specs.Steps.{IsDueInPass, MayMakeNext, IsUndueOncePlaced};
 ghost use Rattle.call_steps.specs.CallOutcomes.{call_outcome_of};
 ghost use Rattle.call_steps.specs.Callers.{IsOfScript};
+ghost use Rattle.call_steps.specs.Ready.{ready};
 ghost use Rattle.client_patch.specs.Padded.{ArePadded};
 ghost use Rattle.call_machine.specs.Kinds.{Asked, client_machine, machine_of, IfReads, IfDraws, IfPuts, IfPatches, IfRebuilds, UnlessPatches};
 ghost use Rattle.call_machine.specs.Calls.{first_call, drawn_by, owed_by, KnowsOldOf};
+ghost use Rattle.call_machine.specs.Going.{GoesOn, HasPlace};
 ghost use Rattle.call_machine.specs.Ends.{IfBytesServed, IsEndOf};
 
 use call_steps::{Act, CallOutcome, DirectoryAnswer, Need, ServerAnswer};
@@ -228,6 +230,27 @@ impl<'a> CallMachine<'a> {
             MachineKind::Patch(patch) => patch.on_coder(rt, coder),
             MachineKind::Rebuild(rebuild) => rebuild.on_coder(rt, coder),
         }
+    }
+
+    /// The coding before the next step, if one is due: whether memory was wanting in it.
+    pub fn ready<R: Threads + Sync, C: Coder>(&mut self, rt: &R, coder: &C) -> bool
+        requires { GoesOn (need_of self.old.call) }
+        ensures short { result ≡ (self.old.call.due && self.new.call.coding) }
+        ensures ready { self.new.call ≡ ready self.new.call.coding self.old.call }
+        ensures place { HasPlace (need_of self.new.call) }
+        ensures in_pass { IsDueInPass self.old.call }
+        ensures pass { HoldsItsPass self.old.call }
+        ensures may { MayMakeNext self.old.call }
+        ensures placed { IfRebuilds (machine_of self.old.asked) (IsUndueOncePlaced self.old.call) }
+        ensures asked { self.new.asked ≡ self.old.asked }
+        ensures owed { (self.old.call.due && self.new.call.coding) ≡ false → self.new.owed ≡ self.old.owed }
+        ensures knows { (d : Sealed) → KnowsOldOf d self.old → KnowsOldOf d self.new }
+    {
+        if matches!(self.need(), Need::Coder) {
+            self.on_coder(rt, coder);
+            return self.coding_was_short();
+        }
+        false
     }
 
     /// Whether memory was wanting in the last coding, where no step came after it.

@@ -1,7 +1,7 @@
--- A call's coding and its step as its machine makes them.
-use Rattle.std.proofs.Common.{◌≡◌, ◌⊎◌, ℕ, ◌<◌, Bool, true, false, ◌&&◌, if◌then◌else◌, length, get_or, set, sym, ap, subst, ◌∙◌, inr, true≢false}
+-- A call's step at a server as its machine makes it.
+use Rattle.std.proofs.Common.{◌≡◌, ℕ, ◌<◌, length, get_or, set, sym, ap, subst, ◌∙◌, inr}
 use Rattle.clay_grid.specs.Shape.{chunk_count, stripe_length}
-use Rattle.store_core.specs.Act.{Act, DirectoryStep}
+use Rattle.store_core.specs.Act.{Act}
 use Rattle.store_core.specs.Agreement.{Agrees}
 use Rattle.store_core.specs.Server.{Server}
 use Rattle.version_seal.specs.Entry.{BookOf}
@@ -12,44 +12,12 @@ use Rattle.stripe_stamps.specs.Sealed.{Sealed}
 use Rattle.stripe_stamps.specs.Stamped.{HasStamps}
 use Rattle.call_steps.specs.declared.need.Need.TheVariants as need
 use Rattle.call_steps.specs.CallOf.{CallOf, act_of}
-use Rattle.call_steps.specs.Steps.{need_by, need_of, coded, at_server_by, LeadsToAtServer, HoldsItsPass, IsDueInPass, MayMakeNext, IsUndueOncePlaced}
-use Rattle.call_steps.proofs.Codings.{acts_stand}
-use Rattle.call_steps.proofs.Needs.{needs_tell_acts, is_coder}
+use Rattle.call_steps.specs.Steps.{need_of, at_server_by, LeadsToAtServer, HoldsItsPass, MayMakeNext}
 use Rattle.call_machine.specs.Calls.{MachineOf, KnowsOldOf}
-use Rattle.call_machine.specs.Kinds.{machine_of, IfRebuilds}
 use Rattle.session_store.specs.declared.places.SessionPlaces.{SessionPlaces}
 use Rattle.session_store.specs.Places.{AreServers}
-use Rattle.session_store.specs.Stepping.{HasPlace, IsCoded, MayStep, HasStepped}
+use Rattle.session_store.specs.Stepping.{MayStep, HasStepped}
 use Rattle.session_store.proofs.Lists.{got, servers_set}
-
--- ---- the coding
--- a coding that was due was before a step
-place_by : (act : Act) → need_by act true ≡ need.Coder → HasPlace (need_by act false)
-place_by (Act.AtDirectory step) e = tt
-place_by (Act.AtServer server step) e = tt
-place_by (Act.Finish outcome) e = absurd (true≢false (sym (ap is_coder e)))
-
-coded_by : (c : CallOf) (coding : Bool) → c.due ≡ true → IsDueInPass c → need_of c ≡ need.Coder → HasPlace (need_of (coded coding c))
-coded_by c false due in_pass e = place_by (act_of c) (ap (need_by (act_of c)) (sym due) ∙ e)
-coded_by c true due in_pass e =
-    let same : act_of (coded true c) ≡ Act.AtDirectory DirectoryStep.End = subst (λ (b : Bool). act_of (if b then coded true c else c) ≡ Act.AtDirectory DirectoryStep.End) due (acts_stand.wanting c due in_pass) in
-    subst (λ (act : Act). HasPlace (need_by act false)) (sym same) tt
-
-pub is_coded : (c now : MachineOf) → need_of c.call ≡ need.Coder → IsDueInPass c.call → IfRebuilds (machine_of c.asked) (IsUndueOncePlaced c.call) → HoldsItsPass c.call → MayMakeNext c.call →
-    now.call ≡ coded now.call.coding c.call → now.asked ≡ c.asked → (now.call.coding ≡ false → now.owed ≡ c.owed) → ((d : Sealed) → KnowsOldOf d c → KnowsOldOf d now) → IsCoded c now
-is_coded c now needs in_pass undue holds may is asked owed knows =
-    let due : c.call.due ≡ true = needs_tell_acts.coder c.call needs in
-    record {
-      is_ready = is ∙ ap (λ (b : Bool). if b then coded now.call.coding c.call else c.call) (sym due);
-      place = subst (λ (x : CallOf). HasPlace (need_of x)) (sym is) (coded_by c.call now.call.coding due in_pass needs);
-      in_pass = in_pass;
-      undue = undue;
-      holds = holds;
-      may = may;
-      asked = asked;
-      owed = λ ample. owed (ap (λ b. b && now.call.coding) (sym due) ∙ ample);
-      knows = knows;
-    }
 
 -- ---- the step at a server
 module _ (c after : MachineOf) (p : SessionPlaces) (may_step : MayStep c p) (i : ℕ) (x one : ServerState) (below : i < chunk_count c.call.book.geometry) (read : x ≡ get_or p.servers.items i x) where

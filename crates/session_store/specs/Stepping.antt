@@ -1,5 +1,5 @@
 -- A coding of a call that runs alone in a session's places, and a step of it.
-use Rattle.std.specs.Prelude.{◌≡◌, ◌⊎◌, ⊤, ℕ, ◌+◌, ◌<◌, ◌&&◌, false, ◌++◌, length, get_or, set}
+use Rattle.std.specs.Prelude.{◌≡◌, ◌⊎◌, ℕ, ◌+◌, ◌<◌, ◌&&◌, false, ◌++◌, length, get_or, set}
 use Rattle.clay_grid.specs.Shape.{stripe_length}
 use Rattle.store_core.specs.Agreement.{Agrees}
 use Rattle.store_core.specs.Calls.{Calls}
@@ -9,25 +9,15 @@ use Rattle.chunk_server.specs.State.{ServerState}
 use Rattle.stripe_stamps.specs.ItsStripes.{IsWhole}
 use Rattle.stripe_stamps.specs.Sealed.{Sealed}
 use Rattle.stripe_stamps.specs.Stamped.{HasStamps}
-use Rattle.call_steps.specs.declared.need.Need.{Need}
 use Rattle.call_steps.specs.declared.need.Need.TheVariants as need
 use Rattle.call_steps.specs.Steps.{need_of, LeadsTo, LeadsToAtServer, HoldsItsPass, IsDueInPass, MayMakeNext, IsUndueOncePlaced}
 use Rattle.call_steps.specs.Ready.{ready}
 use Rattle.call_machine.specs.Calls.{MachineOf, KnowsOldOf, drawn_by, owed_by}
+use Rattle.call_machine.specs.Going.{HasPlace}
 use Rattle.call_machine.specs.Kinds.{machine_of, IfRebuilds}
 use Rattle.session_store.specs.declared.places.SessionPlaces.{SessionPlaces}
 use Rattle.session_store.specs.Places.{ArePlaces, AreSame}
 use Rattle.session_store.specs.CallBytes.{KnowsBytes}
-
--- a call that isn't over, and one that has a step next
-abbrev pub GoesOn : Need → Type 0
-GoesOn need.Finished = ⊥
-GoesOn _ = ⊤
-
-abbrev pub HasPlace : Need → Type 0
-HasPlace need.Directory = ⊤
-HasPlace (need.Server server) = ⊤
-HasPlace _ = ⊥
 
 -- after the coding before its next step, if one was due
 pub record IsCoded (c now : MachineOf) : Type 0 where

@@ -1,12 +1,12 @@
 //! A call that runs alone.
-ghost use Rattle.std.specs.Prelude.{◌≡◌, ◌++◌, ◌+◌, ◌&&◌, false};
-ghost use Rattle.stripe_stamps.specs.Sealed.{Sealed};
+ghost use Rattle.std.specs.Prelude.{◌≡◌};
 ghost use Rattle.call_steps.specs.Steps.{need_of};
+ghost use Rattle.call_machine.specs.Going.{GoesOn};
 ghost use Rattle.call_machine.specs.Ends.{IsEndOf};
 ghost use Rattle.call_machine.specs.Kinds.{Machine};
 ghost use Rattle.call_steps.specs.declared.outcome.CallOutcome.TheVariants as ended;
 ghost use Rattle.session_store.specs.Ends.{EndsAlone, IsOfClient};
-ghost use Rattle.session_store.specs.Stepping.{GoesOn, HasPlace, IsCoded, MayStep, HasStepped};
+ghost use Rattle.session_store.specs.Stepping.{IsCoded, MayStep, HasStepped};
 ghost use Rattle.session_store.specs.Running.{MayRun, HasRunTo};
 
 use crate::places::SessionPlaces;
@@ -22,9 +22,7 @@ fn code<R: Threads + Sync, C: Coder>(rt: &R, coder: &C, call: &mut CallMachine)
     requires { GoesOn (need_of call.old.call) }
     ensures { IsCoded call.old call.new }
 {
-    if matches!(call.need(), Need::Coder) {
-        call.on_coder(rt, coder);
-    }
+    call.ready(rt, coder);
 }
 
 // The call's next step.

@@ -4,7 +4,7 @@ ghost use Rattle.snapshot_view.specs.ReadSteps.{need_of};
 ghost use Rattle.session_rules.specs.declared.request.Request.{Request};
 ghost use Rattle.session_store.specs.Inside.{store_of};
 ghost use Rattle.session_store.specs.Kept.{MayServe, ServesRequest};
-ghost use Rattle.session_store.specs.Stepping.{GoesOn};
+ghost use Rattle.call_machine.specs.Going.{GoesOn};
 ghost use Rattle.session_store.specs.Reading.{MayReadOn, HasReadOn, MayRead, HasReadTo};
 
 use crate::ended_calls::of_read;
