@@ -12,12 +12,12 @@ use Rattle.world_laws.specs.Served.{bytes_in}
 use Rattle.world_laws.specs.World.{DoingOf}
 use Rattle.call_machine.specs.Going.{GoesOn}
 use Rattle.actors.specs.Callers.{PartOf, CallerOf, calls_of, asked_at}
-use Rattle.actors.specs.declared.part.Part.{Part}
-use Rattle.actors.specs.declared.part.Part.TheVariants as part
+use Rattle.actors.specs.declared.part.CallerPart.{CallerPart}
+use Rattle.actors.specs.declared.part.CallerPart.TheVariants as part
 use Rattle.actors.specs.declared.caller.Caller.TheInside.{Inside}
 
 -- its calls
-abbrev pub part_by : Part → PartOf
+abbrev pub part_by : CallerPart → PartOf
 part_by (part.Client calls) = PartOf.OfClient calls.now
 part_by (part.Repairer calls) = PartOf.OfRepairer calls.now
 

@@ -28,7 +28,7 @@ use crate::after_step::{conclude, forget, put, take};
 use crate::caller_steps::{on_coder, step_call_at_directory, step_call_at_server};
 use crate::left::has_step;
 use crate::next_call::next_call;
-use crate::part::Part;
+use crate::part::CallerPart;
 use call_machine::CallMachine;
 use call_steps::{
     Act, CallerCalls, DirectoryAnswer, EndedCall, Need, ServerAnswer, Step, StepAnswer,
@@ -45,7 +45,7 @@ use version_seal::{Book, Opening};
 /// A client or a repairer of a store, with its calls that have ended and the one in work.
 pub struct Caller<'a> {
     alloc: Global,
-    part: Part<'a>,
+    part: CallerPart<'a>,
     opening: Opening,
     // how often a write is tried
     tries: u32,
@@ -75,7 +75,7 @@ impl<'a> Caller<'a> {
     pub fn new(
         alloc: Global,
         seat: Seat,
-        part: Part<'a>,
+        part: CallerPart<'a>,
         opening: Opening,
         tries: u32,
     ) -> Result<Caller<'a>, AllocError>

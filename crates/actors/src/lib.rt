@@ -11,4 +11,4 @@ mod part;
 
 pub use after_step::forget;
 pub use caller::Caller;
-pub use part::Part;
+pub use part::CallerPart;

@@ -2,7 +2,7 @@
 ghost use Rattle.actors.specs.Beginning.{MayTake, HasBegun};
 ghost use Rattle.actors.specs.Inside.{part_by};
 
-use crate::part::Part;
+use crate::part::CallerPart;
 use call_machine::CallMachine;
 use std::alloc::Global;
 use stripe_dir::Seat;
@@ -14,7 +14,7 @@ pub(crate) fn next_call<'a>(
     seat: Seat,
     place: u32,
     number: u32,
-    part: Part<'a>,
+    part: CallerPart<'a>,
     opening: &Opening,
     tries: u32,
 ) -> CallMachine<'a>
@@ -22,11 +22,11 @@ pub(crate) fn next_call<'a>(
     ensures { HasBegun opening.now tries number (part_by part.entry) seat result }
 {
     match part {
-        Part::Client(part) => {
+        CallerPart::Client(part) => {
             let call = &part.calls.as_slice()[number as usize];
             CallMachine::client(alloc, seat, place, number, call, opening.copy(), tries)
         }
-        Part::Repairer(part) => {
+        CallerPart::Repairer(part) => {
             let rebuild = &part.calls.as_slice()[number as usize];
             CallMachine::rebuild(seat, place, number, rebuild, opening.copy())
         }

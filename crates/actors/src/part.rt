@@ -7,19 +7,19 @@ use store_map::{Actor, ClientPart, RepairPart};
 
 /// The calls that a caller makes, in their order: those of a client, or the rebuilds of a repairer.
 #[derive(Clone, Copy)]
-pub enum Part<'a> {
+pub enum CallerPart<'a> {
     Client(&'a ClientPart),
     Repairer(&'a RepairPart),
 }
 
-impl<'a> Part<'a> {
+impl<'a> CallerPart<'a> {
     /// How many calls they are.
     pub(crate) fn len(self) -> usize
         ensures { result ≡ calls_of (part_by self.entry) }
     {
         match self {
-            Part::Client(part) => part.calls.len(),
-            Part::Repairer(part) => part.calls.len(),
+            CallerPart::Client(part) => part.calls.len(),
+            CallerPart::Repairer(part) => part.calls.len(),
         }
     }
 
@@ -28,8 +28,8 @@ impl<'a> Part<'a> {
         ensures { result ≡ who_of (part_by self.entry) place }
     {
         match self {
-            Part::Client(_) => Actor::Client(place),
-            Part::Repairer(_) => Actor::Repairer(place),
+            CallerPart::Client(_) => Actor::Client(place),
+            CallerPart::Repairer(_) => Actor::Repairer(place),
         }
     }
 
@@ -38,8 +38,8 @@ impl<'a> Part<'a> {
         ensures { result ≡ (work_of (part_by self.entry)).leave }
     {
         match self {
-            Part::Client(part) => part.leave,
-            Part::Repairer(part) => part.leave,
+            CallerPart::Client(part) => part.leave,
+            CallerPart::Repairer(part) => part.leave,
         }
     }
 }

@@ -9,7 +9,7 @@ use Rattle.stripe_dir.specs.contracts.tokens.Seat as seat
 use Rattle.call_machine.specs.contracts.call_machine.CallMachine as machine
 use Rattle.call_steps.specs.contracts.caller_calls.EndedCall as ended
 use Rattle.sweeper.specs.contracts.sweeper.Sweeper as sweeper
-use Rattle.actors.specs.contracts.part.Part as part
+use Rattle.actors.specs.contracts.part.CallerPart as part
 use Rattle.actors.specs.contracts.caller.Caller.TheInside as inside
 use Rattle.actors.specs.contracts.caller.Caller as caller
 use Rattle.run_seats.proofs.ServersCross.{opening_send}

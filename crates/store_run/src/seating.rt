@@ -13,7 +13,7 @@ ghost use Rattle.store_run.specs.Dealt.{turns_of};
 ghost use Rattle.store_run.specs.Seated.{IsSeatedFrom, IsSeating};
 
 use crate::deck::Deck;
-use actors::{Caller, Part};
+use actors::{Caller, CallerPart};
 use run_seats::{Seated, SeatedActor, SeatedOperator, SeatedSweeper, Store, Worker};
 use std::alloc::{AllocError, Global};
 use store_map::{Actor, Script, Token};
@@ -62,7 +62,7 @@ impl<'s, 'a> Seating<'s, 'a> {
     // A client or a repairer, with the last of the seats, goes to the worker of its number.
     fn seat_caller(
         &mut self,
-        part: Part<'a>,
+        part: CallerPart<'a>,
         actor: Actor,
         place: u32,
         number: u32,
@@ -147,7 +147,7 @@ impl<'s, 'a> Seating<'s, 'a> {
         let script = self.store.script;
         let clients = script.clients.len() as u32;
         for place in (0..script.repairers.len() as u32).rev() {
-            let part = Part::Repairer(&script.repairers.as_slice()[place as usize]);
+            let part = CallerPart::Repairer(&script.repairers.as_slice()[place as usize]);
             self.seat_caller(part, Actor::Repairer(place), place, clients + place)?;
         }
         Ok(())
@@ -162,7 +162,7 @@ impl<'s, 'a> Seating<'s, 'a> {
     {
         let script = self.store.script;
         for place in (0..script.clients.len() as u32).rev() {
-            let part = Part::Client(&script.clients.as_slice()[place as usize]);
+            let part = CallerPart::Client(&script.clients.as_slice()[place as usize]);
             self.seat_caller(part, Actor::Client(place), place, place)?;
         }
         Ok(())

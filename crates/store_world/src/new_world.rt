@@ -11,7 +11,7 @@ ghost use Rattle.store_world.specs.First.{AreFirstClients, AreFirstRepairers, Be
 ghost use Rattle.store_world.specs.Stored.{world_of};
 
 use crate::world::World;
-use actors::{Caller, Part};
+use actors::{Caller, CallerPart};
 use chunk_server::Server;
 use std::alloc::{AllocError, Global};
 use store_map::Script;
@@ -51,7 +51,7 @@ fn seat_clients<'a>(
         let client = Caller::new(
             alloc,
             seat,
-            Part::Client(part),
+            CallerPart::Client(part),
             book.opening(),
             script.max_tries(),
         )?;
@@ -81,7 +81,7 @@ fn seat_repairers<'a>(
         let repairer = Caller::new(
             alloc,
             seat,
-            Part::Repairer(part),
+            CallerPart::Repairer(part),
             book.opening(),
             script.max_tries(),
         )?;

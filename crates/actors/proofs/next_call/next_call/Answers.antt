@@ -10,26 +10,26 @@ use Rattle.call_machine.specs.Calls.{first_call}
 use Rattle.actors.specs.Beginning.{HasBegun, MayBeAsked, MayTake}
 use Rattle.actors.specs.Callers.{PartOf}
 use Rattle.actors.specs.Inside.{part_by}
-use Rattle.actors.specs.declared.part.Part.{Part}
+use Rattle.actors.specs.declared.part.CallerPart.{CallerPart}
 use Rattle.actors.proofs.Begins.{is_there, read_asked}
 use Rattle.actors.proofs.next_call.next_call.Goals as goal
 
 pub bounds-as_slice-number : goal.bounds-as_slice-number
 bounds-as_slice-number c =
     let may : MayTake c.args.opening.now c.args.tries c.args.place c.args.number (PartOf.OfClient c.in-Client.part.now) c.args.seat =
-    subst (λ (p : Part). MayTake c.args.opening.now c.args.tries c.args.place c.args.number (part_by p) c.args.seat) c.in-Client.is c.requires.may in
+    subst (λ (p : CallerPart). MayTake c.args.opening.now c.args.tries c.args.place c.args.number (part_by p) c.args.seat) c.in-Client.is c.requires.may in
     subst (λ (calls : List Call). c.args.number < length calls) (sym c.as_slice.ensures) (is_there Asked.OfClient c.in-Client.part.now.calls c.args.number may.asked may.next)
 
 pub bounds-as_slice-number-in-Repairer : goal.bounds-as_slice-number-in-Repairer
 bounds-as_slice-number-in-Repairer c =
     let may : MayTake c.args.opening.now c.args.tries c.args.place c.args.number (PartOf.OfRepairer c.in-Repairer.part.now) c.args.seat =
-    subst (λ (p : Part). MayTake c.args.opening.now c.args.tries c.args.place c.args.number (part_by p) c.args.seat) c.in-Repairer.is c.requires.may in
+    subst (λ (p : CallerPart). MayTake c.args.opening.now c.args.tries c.args.place c.args.number (part_by p) c.args.seat) c.in-Repairer.is c.requires.may in
     subst (λ (calls : List Rebuild). c.args.number < length calls) (sym c.as_slice-in-Repairer.ensures) (is_there Asked.OfRepairer c.in-Repairer.part.now.calls c.args.number may.asked may.next)
 
 pub client-requires-clause-own : goal.client-requires-clause-own
 client-requires-clause-own c =
     let may : MayTake c.args.opening.now c.args.tries c.args.place c.args.number (PartOf.OfClient c.in-Client.part.now) c.args.seat =
-    subst (λ (p : Part). MayTake c.args.opening.now c.args.tries c.args.place c.args.number (part_by p) c.args.seat) c.in-Client.is c.requires.may in
+    subst (λ (p : CallerPart). MayTake c.args.opening.now c.args.tries c.args.place c.args.number (part_by p) c.args.seat) c.in-Client.is c.requires.may in
     may.own
 
 pub client-requires-clause-unused : goal.client-requires-clause-unused
@@ -38,7 +38,7 @@ client-requires-clause-unused c = c.requires.may.unused
 pub client-requires-clause-tries : goal.client-requires-clause-tries
 client-requires-clause-tries c =
     let may : MayTake c.args.opening.now c.args.tries c.args.place c.args.number (PartOf.OfClient c.in-Client.part.now) c.args.seat =
-    subst (λ (p : Part). MayTake c.args.opening.now c.args.tries c.args.place c.args.number (part_by p) c.args.seat) c.in-Client.is c.requires.may in
+    subst (λ (p : CallerPart). MayTake c.args.opening.now c.args.tries c.args.place c.args.number (part_by p) c.args.seat) c.in-Client.is c.requires.may in
     let read : Call = c.index-as_slice-number.result in
     let is : may.asked ≡ Asked.OfClient read =
     read_asked Asked.OfClient c.in-Client.part.now.calls c.args.number may.asked read may.next (c.index-as_slice-number.is ∙ ap (λ (calls : List Call). get_or calls c.args.number read) c.as_slice.ensures) in
@@ -47,7 +47,7 @@ client-requires-clause-tries c =
 pub client-requires-clause-script : goal.client-requires-clause-script
 client-requires-clause-script c =
     let may : MayTake c.args.opening.now c.args.tries c.args.place c.args.number (PartOf.OfClient c.in-Client.part.now) c.args.seat =
-    subst (λ (p : Part). MayTake c.args.opening.now c.args.tries c.args.place c.args.number (part_by p) c.args.seat) c.in-Client.is c.requires.may in
+    subst (λ (p : CallerPart). MayTake c.args.opening.now c.args.tries c.args.place c.args.number (part_by p) c.args.seat) c.in-Client.is c.requires.may in
     let read : Call = c.index-as_slice-number.result in
     let is : may.asked ≡ Asked.OfClient read =
     read_asked Asked.OfClient c.in-Client.part.now.calls c.args.number may.asked read may.next (c.index-as_slice-number.is ∙ ap (λ (calls : List Call). get_or calls c.args.number read) c.as_slice.ensures) in
@@ -57,7 +57,7 @@ client-requires-clause-script c =
 pub rebuild-requires-clause-own : goal.rebuild-requires-clause-own
 rebuild-requires-clause-own c =
     let may : MayTake c.args.opening.now c.args.tries c.args.place c.args.number (PartOf.OfRepairer c.in-Repairer.part.now) c.args.seat =
-    subst (λ (p : Part). MayTake c.args.opening.now c.args.tries c.args.place c.args.number (part_by p) c.args.seat) c.in-Repairer.is c.requires.may in
+    subst (λ (p : CallerPart). MayTake c.args.opening.now c.args.tries c.args.place c.args.number (part_by p) c.args.seat) c.in-Repairer.is c.requires.may in
     may.own
 
 pub rebuild-requires-clause-unused : goal.rebuild-requires-clause-unused
@@ -66,7 +66,7 @@ rebuild-requires-clause-unused c = c.requires.may.unused
 pub rebuild-requires-clause-server : goal.rebuild-requires-clause-server
 rebuild-requires-clause-server c =
     let may : MayTake c.args.opening.now c.args.tries c.args.place c.args.number (PartOf.OfRepairer c.in-Repairer.part.now) c.args.seat =
-    subst (λ (p : Part). MayTake c.args.opening.now c.args.tries c.args.place c.args.number (part_by p) c.args.seat) c.in-Repairer.is c.requires.may in
+    subst (λ (p : CallerPart). MayTake c.args.opening.now c.args.tries c.args.place c.args.number (part_by p) c.args.seat) c.in-Repairer.is c.requires.may in
     let read : Rebuild = c.index-as_slice-number-in-Repairer.result in
     let is : may.asked ≡ Asked.OfRepairer read =
     read_asked Asked.OfRepairer c.in-Repairer.part.now.calls c.args.number may.asked read may.next
@@ -77,11 +77,11 @@ rebuild-requires-clause-server c =
 pub returns-in-Client : goal.returns-in-Client
 returns-in-Client c =
     let may : MayTake c.args.opening.now c.args.tries c.args.place c.args.number (PartOf.OfClient c.in-Client.part.now) c.args.seat =
-    subst (λ (p : Part). MayTake c.args.opening.now c.args.tries c.args.place c.args.number (part_by p) c.args.seat) c.in-Client.is c.requires.may in
+    subst (λ (p : CallerPart). MayTake c.args.opening.now c.args.tries c.args.place c.args.number (part_by p) c.args.seat) c.in-Client.is c.requires.may in
     let read : Call = c.index-as_slice-number.result in
     let is : may.asked ≡ Asked.OfClient read =
     read_asked Asked.OfClient c.in-Client.part.now.calls c.args.number may.asked read may.next (c.index-as_slice-number.is ∙ ap (λ (calls : List Call). get_or calls c.args.number read) c.as_slice.ensures) in
-    subst (λ (p : Part). HasBegun c.args.opening.now c.args.tries c.args.number (part_by p) c.args.seat c.client.result) (sym c.in-Client.is)
+    subst (λ (p : CallerPart). HasBegun c.args.opening.now c.args.tries c.args.number (part_by p) c.args.seat c.client.result) (sym c.in-Client.is)
     (record {
       asked = Asked.OfClient read;
       next = may.next ∙ ap (λ (asked : Asked). Some asked) is;
@@ -91,12 +91,12 @@ returns-in-Client c =
 pub returns-in-Repairer : goal.returns-in-Repairer
 returns-in-Repairer c =
     let may : MayTake c.args.opening.now c.args.tries c.args.place c.args.number (PartOf.OfRepairer c.in-Repairer.part.now) c.args.seat =
-    subst (λ (p : Part). MayTake c.args.opening.now c.args.tries c.args.place c.args.number (part_by p) c.args.seat) c.in-Repairer.is c.requires.may in
+    subst (λ (p : CallerPart). MayTake c.args.opening.now c.args.tries c.args.place c.args.number (part_by p) c.args.seat) c.in-Repairer.is c.requires.may in
     let read : Rebuild = c.index-as_slice-number-in-Repairer.result in
     let is : may.asked ≡ Asked.OfRepairer read =
     read_asked Asked.OfRepairer c.in-Repairer.part.now.calls c.args.number may.asked read may.next
     (c.index-as_slice-number-in-Repairer.is ∙ ap (λ (calls : List Rebuild). get_or calls c.args.number read) c.as_slice-in-Repairer.ensures) in
-    subst (λ (p : Part). HasBegun c.args.opening.now c.args.tries c.args.number (part_by p) c.args.seat c.rebuild.result) (sym c.in-Repairer.is)
+    subst (λ (p : CallerPart). HasBegun c.args.opening.now c.args.tries c.args.number (part_by p) c.args.seat c.rebuild.result) (sym c.in-Repairer.is)
     (record {
       asked = Asked.OfRepairer read;
       next = may.next ∙ ap (λ (asked : Asked). Some asked) is;
