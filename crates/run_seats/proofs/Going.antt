@@ -6,7 +6,7 @@ use Rattle.store_map.specs.Limits.{size_of}
 use Rattle.store_map.specs.declared.actor.Actor.TheVariants as actor
 use Rattle.store_map.specs.declared.script.Script.{Script}
 use Rattle.store_core.specs.Act.{Act}
-use Rattle.store_core.specs.ActPlace.{Place}
+use Rattle.store_core.specs.ActPlace.{ActPlace}
 use Rattle.store_core.specs.Work.{Work}
 use Rattle.thread_laws.specs.MadeSteps.{MadeStep}
 use Rattle.version_seal.specs.Entry.{BookOf}
@@ -78,7 +78,7 @@ module _ (store : Store) (seated : Seated) (may : MayStep store seated) (mid aft
   work = work_of seated.caller.part
 
   -- its own steps at each place by what its turns have seen
-  abbrev own : Place → List MadeStep
+  abbrev own : ActPlace → List MadeStep
   own = own_at seated.turns.number (seen_by seated.turns)
 
   -- the call that made the step is the one that was ready

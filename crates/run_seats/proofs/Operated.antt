@@ -1,6 +1,6 @@
 -- What the operator's steps at a place are stays so at the place that is given back.
 use Rattle.std.proofs.Common.{◌≡◌, ℕ, List, Option, Some, sym, subst}
-use Rattle.store_core.specs.ActPlace.{Place}
+use Rattle.store_core.specs.ActPlace.{ActPlace}
 use Rattle.store_core.specs.Server.{Server}
 use Rattle.store_core.specs.Tokens.{actor_of}
 use Rattle.thread_laws.specs.MadeSteps.{MadeStep}
@@ -13,9 +13,9 @@ use Rattle.thread_laws.proofs.Operated.{callers_differ, calls_plain, IsOthers}
 use Rattle.run_seats.specs.Stepped.{entry_at_server, entry_at_directory}
 
 -- the same book and the same number
-pub same_operated : (book now : BookOf) (number n : ℕ) (steps : List MadeStep) → now ≡ book → n ≡ number → IsOperated book.script (Place.Server number) steps → IsOperated now.script (Place.Server n) steps
+pub same_operated : (book now : BookOf) (number n : ℕ) (steps : List MadeStep) → now ≡ book → n ≡ number → IsOperated book.script (ActPlace.Server number) steps → IsOperated now.script (ActPlace.Server n) steps
 same_operated book now number n steps same_book same_number is =
-    subst (λ (b : BookOf). IsOperated b.script (Place.Server n) steps) (sym same_book) (subst (λ (k : ℕ). IsOperated book.script (Place.Server k) steps) (sym same_number) is)
+    subst (λ (b : BookOf). IsOperated b.script (ActPlace.Server n) steps) (sym same_book) (subst (λ (k : ℕ). IsOperated book.script (ActPlace.Server k) steps) (sym same_number) is)
 
 -- the step of a call is none of the operator's
 pub call_at_server : (number : ℕ) (work : Option MachineOf) (call left : MachineOf) (s : Server) (log : List (ℕ × MadeStep)) (last : ℕ) → work ≡ Some call → IsCaller (actor_of call.call.token)

@@ -6,7 +6,7 @@ use Rattle.store_map.specs.declared.actor.Token.{Token}
 use Rattle.store_map.specs.declared.actor.Actor.{Actor}
 use Rattle.store_map.specs.declared.actor.Token.TheVariants as token
 use Rattle.store_core.specs.Act.{Act, DirectoryStep}
-use Rattle.store_core.specs.ActPlace.{Place}
+use Rattle.store_core.specs.ActPlace.{ActPlace}
 use Rattle.thread_laws.specs.Lines.{operator_act}
 use Rattle.thread_laws.specs.MadeSteps.{MadeStep}
 use Rattle.turn_lock.specs.History.{entries_of}
@@ -30,7 +30,7 @@ pub record LineFits (identity : ServerIdentity) (number : ℕ) (seen : List (ℕ
   pub turn : IsTurnOf (counts_of identity) number actor.Operator
   pub next :
       IfSome identity.opening.script
-      (λ script. IsNextThere script (Place.Server identity.number) (steps_in (entries_of number seen)) (Act.AtServer identity.number (line_step line)))
+      (λ script. IsNextThere script (ActPlace.Server identity.number) (steps_in (entries_of number seen)) (Act.AtServer identity.number (line_step line)))
 
 pub line_fits : (identity : ServerIdentity) (fixed : Option ServerIdentity) (number : ℕ) (seen : List (ℕ × MadeStep)) (line : Token) → Some identity ≡ fixed → IsLineAtServer fixed number seen line
     → LineFits identity number seen line
@@ -42,7 +42,7 @@ pub record ReapFits (identity : DirectoryIdentity) (number : ℕ) (seen : List (
   pub turn : IsTurnOf (counts_there identity) number actor.Operator
   pub next :
       IfSome identity.opening.script
-      (λ script. IsNextThere script Place.Directory (made_in (entries_of number seen)) (Act.AtDirectory (DirectoryStep.Reap reaped)))
+      (λ script. IsNextThere script ActPlace.Directory (made_in (entries_of number seen)) (Act.AtDirectory (DirectoryStep.Reap reaped)))
 
 pub reap_fits : (identity : DirectoryIdentity) (fixed : Option DirectoryIdentity) (number : ℕ) (seen : List (ℕ × Noted)) (reaped : Actor) → Some identity ≡ fixed → IsLineAtDirectory fixed number seen reaped
     → ReapFits identity number seen reaped

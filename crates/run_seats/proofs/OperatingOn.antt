@@ -10,7 +10,7 @@ use Rattle.store_map.specs.declared.actor.Token.{Token}
 use Rattle.store_map.specs.declared.actor.Token.TheVariants as token
 use Rattle.store_map.specs.declared.script.Script.{Script}
 use Rattle.store_core.specs.Act.{Act, DirectoryStep}
-use Rattle.store_core.specs.ActPlace.{Place}
+use Rattle.store_core.specs.ActPlace.{ActPlace}
 use Rattle.thread_laws.specs.Lines.{operator_act}
 use Rattle.thread_laws.specs.MadeSteps.{MadeStep, acts_at}
 use Rattle.thread_laws.specs.Threaded.{is_line, lines_of}
@@ -65,7 +65,7 @@ module _ (store : Store) (seated : SeatedOperator) (may : MayOperate store seate
   script = store.script.now
 
   -- its own steps at each place by what its turns have seen, and its lines after this one
-  abbrev own : Place → List MadeStep
+  abbrev own : ActPlace → List MadeStep
   own = own_at seated.turns.number (seen_by seated.turns)
 
   abbrev left : List Token
@@ -93,7 +93,7 @@ module _ (store : Store) (seated : SeatedOperator) (may : MayOperate store seate
 
   -- ---- before the step
   -- the line is the next one at its place
-  next_line : (place : Place) (act : Act) → operator_act line ≡ Some act → acts_at place act ≡ true → IfSome store.book.now.script (λ (s : Script). IsNextThere s place (own place) act)
+  next_line : (place : ActPlace) (act : Act) → operator_act line ≡ Some act → acts_at place act ≡ true → IfSome store.book.now.script (λ (s : Script). IsNextThere s place (own place) act)
   next_line place act acts there =
       subst (λ (o : Option Script). IfSome o (λ (s : Script). IsNextThere s place (own place) act)) (sym may.store_is.written) (lines_are_next script own line left place act operating acts there)
 
@@ -108,8 +108,8 @@ module _ (store : Store) (seated : SeatedOperator) (may : MayOperate store seate
         turn = may.seated_is.turn;
         next =
             subst
-            (λ (l : List (ℕ × MadeStep)). IfSome store.book.now.script (λ (s : Script). IsNextThere s (Place.Server j) (steps_in (entries_of seated.turns.number l)) (Act.AtServer j (line_step line))))
-            (log_at seated.turns j turn at) (next_line (Place.Server j) (Act.AtServer j (line_step line)) there.1 (eq-eqb j j refl));
+            (λ (l : List (ℕ × MadeStep)). IfSome store.book.now.script (λ (s : Script). IsNextThere s (ActPlace.Server j) (steps_in (entries_of seated.turns.number l)) (Act.AtServer j (line_step line))))
+            (log_at seated.turns j turn at) (next_line (ActPlace.Server j) (Act.AtServer j (line_step line)) there.1 (eq-eqb j j refl));
       }
 
   pub may_reap : (who : Actor) → operator_act line ≡ Some (Act.AtDirectory (DirectoryStep.Reap who)) → IsLineAtDirectory seated.turns.directory.fixed seated.turns.number seated.turns.directory.seen who
@@ -118,7 +118,7 @@ module _ (store : Store) (seated : SeatedOperator) (may : MayOperate store seate
         identity = directory_of store;
         is = may.seated_is.turns.directory.fixed;
         turn = may.seated_is.turn;
-        next = next_line Place.Directory (Act.AtDirectory (DirectoryStep.Reap who)) acts refl;
+        next = next_line ActPlace.Directory (Act.AtDirectory (DirectoryStep.Reap who)) acts refl;
       }
 
   -- ---- with other turns

@@ -6,7 +6,7 @@ use Rattle.clay_grid.specs.Shape.{chunk_count}
 use Rattle.store_map.specs.declared.script.ClientPart.{ClientPart}
 use Rattle.store_map.specs.declared.script.RepairPart.{RepairPart}
 use Rattle.store_map.specs.declared.script.Script.{Script}
-use Rattle.store_core.specs.ActPlace.{Place}
+use Rattle.store_core.specs.ActPlace.{ActPlace}
 use Rattle.store_core.specs.NextAct.{Job, job_of, rebuild_job}
 use Rattle.store_core.specs.Tokens.{actor_of}
 use Rattle.store_core.specs.Work.{Ended, Work}
@@ -90,7 +90,7 @@ module _ (store : Store) (seated : Seated) (may : MayStep store seated) where
   abbrev work : Work
   work = work_of seated.caller.part
 
-  abbrev at : Place → List MadeStep
+  abbrev at : ActPlace → List MadeStep
   at = own_at seated.turns.number (seen_by seated.turns)
 
   pub of_script : IsOfScript store.script.now seated.caller
@@ -104,7 +104,7 @@ module _ (store : Store) (seated : Seated) (may : MayStep store seated) where
   whose : actor_of (token_of a.actor.doing) ≡ who_of a.part seated.place
   whose =
       ap actor_of (sym may.seated_is.calling.token)
-      ∙ (token_of_actor (at Place.Directory) (first_token seated.actor) ∙ may.seated_is.whose)
+      ∙ (token_of_actor (at ActPlace.Directory) (first_token seated.actor) ∙ may.seated_is.whose)
 
   -- its next call may begin
   pub may_go_on : MayGoOn seated.place seated.caller

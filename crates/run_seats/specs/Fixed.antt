@@ -1,6 +1,6 @@
 -- What never changes about a place, as its turns tell it, and what its box stands for.
 use Rattle.std.specs.Prelude.{ℕ, List, Option, None, Some}
-use Rattle.store_core.specs.ActPlace.{Place}
+use Rattle.store_core.specs.ActPlace.{ActPlace}
 use Rattle.thread_laws.specs.MadeSteps.{MadeStep}
 use Rattle.chunk_server.specs.Core.{core_of}
 use Rattle.thread_laws.specs.AtDirectory.{StandsAtDirectory}
@@ -43,9 +43,9 @@ directory_identity held = record { opening = held.directory.book; max = held.max
 abbrev pub ServerStands : ServerBox → List (ℕ × MadeStep) → Type 0
 ServerStands held log =
     StandsAtServer (counts_of (server_identity held)) held.server.number (core_of held.server) log
-    × IsOperated held.server.book.script (Place.Server held.server.number) (steps_in log)
+    × IsOperated held.server.book.script (ActPlace.Server held.server.number) (steps_in log)
 
 -- so does the directory
 abbrev pub DirectoryStands : DirectoryBox → List (ℕ × Noted) → Type 0
 DirectoryStands held log =
-    StandsAtDirectory (counts_there (directory_identity held)) held.max held.directory log × IsOperated held.directory.book.script Place.Directory (made_in log)
+    StandsAtDirectory (counts_there (directory_identity held)) held.max held.directory log × IsOperated held.directory.book.script ActPlace.Directory (made_in log)

@@ -5,7 +5,7 @@ use Rattle.store_map.specs.declared.actor.Actor.TheVariants as actor
 use Rattle.store_map.specs.declared.actor.Token.{Token}
 use Rattle.store_map.specs.declared.actor.Token.TheVariants as token
 use Rattle.store_core.specs.Act.{Act, DirectoryStep, ServerStep}
-use Rattle.store_core.specs.ActPlace.{Place}
+use Rattle.store_core.specs.ActPlace.{ActPlace}
 use Rattle.store_core.specs.Server.{Server}
 use Rattle.thread_laws.specs.Lines.{operator_act}
 use Rattle.thread_laws.specs.MadeSteps.{MadeStep}
@@ -81,7 +81,7 @@ pub record IsLineAtServer (fixed : Option ServerIdentity) (number : ℕ) (seen :
   pub turn : IsTurnOf (counts_of identity) number actor.Operator
   pub next :
       IfSome identity.opening.script
-      (λ script. IsNextThere script (Place.Server identity.number) (steps_in (entries_of number seen)) (Act.AtServer identity.number (line_step line)))
+      (λ script. IsNextThere script (ActPlace.Server identity.number) (steps_in (entries_of number seen)) (Act.AtServer identity.number (line_step line)))
 
 -- or a reap of this actor is its next one at the directory
 pub record IsLineAtDirectory (fixed : Option DirectoryIdentity) (number : ℕ) (seen : List (ℕ × Noted)) (reaped : Actor) : Type 0 where
@@ -90,7 +90,7 @@ pub record IsLineAtDirectory (fixed : Option DirectoryIdentity) (number : ℕ) (
   pub turn : IsTurnOf (counts_there identity) number actor.Operator
   pub next :
       IfSome identity.opening.script
-      (λ script. IsNextThere script Place.Directory (made_in (entries_of number seen)) (Act.AtDirectory (DirectoryStep.Reap reaped)))
+      (λ script. IsNextThere script ActPlace.Directory (made_in (entries_of number seen)) (Act.AtDirectory (DirectoryStep.Reap reaped)))
 
 -- after the line's step there is an entry more of the operator
 pub record HasOperatedAtServer (number last : ℕ) (seen now : List (ℕ × MadeStep)) (line : Token) : Type 0 where

@@ -1,6 +1,6 @@
 //! The directory behind a lock.
 ghost use Rattle.std.specs.Prelude.{◌≡◌};
-ghost use Rattle.store_core.specs.ActPlace.{Place};
+ghost use Rattle.store_core.specs.ActPlace.{ActPlace};
 ghost use Rattle.thread_laws.specs.AtDirectory.{StandsAtDirectory};
 ghost use Rattle.thread_laws.specs.Noted.{made_in};
 ghost use Rattle.thread_laws.specs.Operated.{IsOperated};
@@ -52,5 +52,5 @@ impl Historied for DirectoryBox {
     ghost fixed_part = { λ b. record { opening = b.directory.book; max = b.max; clients = b.clients; repairers = b.repairers } };
 
     ghost stands_for = { λ b log. StandsAtDirectory (record { clients = b.clients; repairers = b.repairers }) b.max b.directory log
-        × IsOperated b.directory.book.script Place.Directory (made_in log) };
+        × IsOperated b.directory.book.script ActPlace.Directory (made_in log) };
 }

@@ -1,7 +1,7 @@
 //! A chunk server behind a lock.
 ghost use Rattle.std.specs.Prelude.{◌≡◌};
 ghost use Rattle.chunk_server.specs.Core.{core_of};
-ghost use Rattle.store_core.specs.ActPlace.{Place};
+ghost use Rattle.store_core.specs.ActPlace.{ActPlace};
 ghost use Rattle.thread_laws.specs.AtServer.{StandsAtServer};
 ghost use Rattle.thread_laws.specs.Entries.{steps_in};
 ghost use Rattle.thread_laws.specs.Operated.{IsOperated};
@@ -52,5 +52,5 @@ impl Historied for ServerBox {
     ghost fixed_part = { λ b. record { number = b.server.number; opening = b.server.book; clients = b.clients; repairers = b.repairers } };
 
     ghost stands_for = { λ b log. StandsAtServer (record { clients = b.clients; repairers = b.repairers }) b.server.number (core_of b.server) log
-        × IsOperated b.server.book.script (Place.Server b.server.number) (steps_in log) };
+        × IsOperated b.server.book.script (ActPlace.Server b.server.number) (steps_in log) };
 }

@@ -3,14 +3,14 @@ use Rattle.std.specs.Prelude.{ℕ, Bool, true, false, Option, None, Some}
 use Rattle.store_core.specs.Act.{Act, DirectoryStep, ServerStep}
 
 -- where steps are made
-pub data Place : Type 0 where
-  Directory : Place
-  Server : (number : ℕ) → Place
+pub data ActPlace : Type 0 where
+  Directory : ActPlace
+  Server : (number : ℕ) → ActPlace
 
 -- where an act is done; a call that is over needs no place
-abbrev pub place_of : Act → Option Place
-place_of (Act.AtDirectory step) = Some Place.Directory
-place_of (Act.AtServer server step) = Some (Place.Server server)
+abbrev pub place_of : Act → Option ActPlace
+place_of (Act.AtDirectory step) = Some ActPlace.Directory
+place_of (Act.AtServer server step) = Some (ActPlace.Server server)
 place_of (Act.Finish outcome) = None
 
 -- a step at the directory on the pass of its call

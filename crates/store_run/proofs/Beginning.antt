@@ -7,7 +7,7 @@ use Rattle.store_map.specs.declared.actor.Actor.TheVariants as actor
 use Rattle.store_map.specs.declared.actor.Token.{Token}
 use Rattle.store_map.specs.declared.script.Script.{Script}
 use Rattle.store_core.specs.Act.{Outcome}
-use Rattle.store_core.specs.ActPlace.{Place}
+use Rattle.store_core.specs.ActPlace.{ActPlace}
 use Rattle.store_core.specs.Work.{Work, new_calling}
 use Rattle.thread_laws.specs.AtPlaces.{after_all}
 use Rattle.thread_laws.specs.ByActors.{calling_next}
@@ -50,9 +50,9 @@ module _ (store : Store) (turns : Turns) (new : AreNew store turns) where
       by None e = refl
       by (Some turn) e = new.servers j turn e
 
-  pub none_own : (number : ℕ) (place : Place) → own_at number (seen_by turns) place ≡ []
-  none_own number Place.Directory = ap (λ (l : List (ℕ × Noted)). made_in (entries_of number l)) new.directory
-  none_own number (Place.Server j) = ap (λ (l : List (ℕ × MadeStep)). steps_in (entries_of number l)) (none_logged j)
+  pub none_own : (number : ℕ) (place : ActPlace) → own_at number (seen_by turns) place ≡ []
+  none_own number ActPlace.Directory = ap (λ (l : List (ℕ × Noted)). made_in (entries_of number l)) new.directory
+  none_own number (ActPlace.Server j) = ap (λ (l : List (ℕ × MadeStep)). steps_in (entries_of number l)) (none_logged j)
 
   pub begins : (script : Script) (number : ℕ) → ActorsBegin script (own_at number (seen_by turns))
   begins script number = all_begin script (own_at number (seen_by turns)) (none_own number)
@@ -69,7 +69,7 @@ module _ (store : Store) (seated : Seated) (new : AreNew store seated.turns) (pa
   abbrev work : Work
   work = work_of part
 
-  abbrev own : Place → List MadeStep
+  abbrev own : ActPlace → List MadeStep
   own = own_at seated.turns.number (seen_by seated.turns)
 
   abbrev made : Seated

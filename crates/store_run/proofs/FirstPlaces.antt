@@ -2,7 +2,7 @@
 use Rattle.std.proofs.Common.{◌≡◌, ℕ, [], slice_get, Option, IfSome, Vec, vec_len, Result, Ok, Err, IfOk, sym, ap, subst, ◌∙◌}
 use Rattle.std.specs.Global.{Global}
 use Rattle.atomic_table.specs.Seated.{TableId}
-use Rattle.store_core.specs.ActPlace.{Place}
+use Rattle.store_core.specs.ActPlace.{ActPlace}
 use Rattle.store_core.specs.Server.{Server}
 use Rattle.version_seal.specs.Entry.{BookOf}
 use Rattle.chunk_server.specs.Core.{core_of}
@@ -18,16 +18,16 @@ use Rattle.thread_laws.proofs.Operated.{none_operated}
 use Rattle.thread_laws.proofs.Others.{all_places_begin}
 
 pub server_begins : (of : Counts) (number : ℕ) (book : BookOf) (s : ServerState) → s ≡ empty_server number book
-    → StandsAtServer of s.number (core_of s) [] × IsOperated s.book.script (Place.Server s.number) []
+    → StandsAtServer of s.number (core_of s) [] × IsOperated s.book.script (ActPlace.Server s.number) []
 server_begins of number book s new = (
   subst (λ (x : Server). StandsAtServer of s.number x []) (sym (ap core_of new)) ((all_places_begin of).server s.number),
-  none_operated s.book.script (Place.Server s.number),
+  none_operated s.book.script (ActPlace.Server s.number),
 )
 
-pub directory_begins : (of : Counts) (max size : ℕ) (d : Sealed) → d ≡ new_sealed d.book size → max ≡ size → StandsAtDirectory of max d [] × IsOperated d.book.script Place.Directory []
+pub directory_begins : (of : Counts) (max size : ℕ) (d : Sealed) → d ≡ new_sealed d.book size → max ≡ size → StandsAtDirectory of max d [] × IsOperated d.book.script ActPlace.Directory []
 directory_begins of max size d new is = (
   subst (λ (m : ℕ). StandsAtDirectory of m d []) (sym is) (subst (λ (x : Sealed). StandsAtDirectory of size x []) (sym new) ((all_places_begin of).directory d.book size)),
-  none_operated d.book.script Place.Directory,
+  none_operated d.book.script ActPlace.Directory,
 )
 
 -- the turns of a new lock, of which each is told alone

@@ -10,7 +10,7 @@ use Rattle.store_map.specs.declared.actor.Actor.{Actor}
 use Rattle.store_map.specs.declared.actor.Actor.TheVariants as actor
 use Rattle.store_map.specs.declared.script.Script.{Script}
 use Rattle.store_core.specs.Act.{Act, ServerStep}
-use Rattle.store_core.specs.ActPlace.{Place, place_of}
+use Rattle.store_core.specs.ActPlace.{ActPlace, place_of}
 use Rattle.store_core.specs.AtDirectory.{at_directory}
 use Rattle.store_core.specs.Directory.{Directory}
 use Rattle.store_core.specs.Server.{Server}
@@ -69,10 +69,10 @@ module _ {E : Type 0} (log : List (ℕ × E)) where
   )
 
 module _ (logs : Logs) (n : ℕ) where
-  others_at_server : (j : ℕ) (entry : ℕ × MadeStep) → n ≢ entry.0 → j < length logs.servers → (place : Place) → own_at n (with_log j (log_of logs j ++ entry ∷ []) logs) place ≡ own_at n logs place
+  others_at_server : (j : ℕ) (entry : ℕ × MadeStep) → n ≢ entry.0 → j < length logs.servers → (place : ActPlace) → own_at n (with_log j (log_of logs j ++ entry ∷ []) logs) place ≡ own_at n logs place
   others_at_server j entry apart there = (others_add_nothing n (n ∷ []) logs (alone n)).at_server j (log_of logs j ++ entry ∷ []) there (by_another (log_of logs j) n entry apart)
 
-  others_at_directory : (entry : ℕ × Noted) → n ≢ entry.0 → (place : Place) → own_at n (with_notes (logs.directory ++ entry ∷ []) logs) place ≡ own_at n logs place
+  others_at_directory : (entry : ℕ × Noted) → n ≢ entry.0 → (place : ActPlace) → own_at n (with_notes (logs.directory ++ entry ∷ []) logs) place ≡ own_at n logs place
   others_at_directory entry apart = (others_add_nothing n (n ∷ []) logs (alone n)).at_directory (logs.directory ++ entry ∷ []) (by_another logs.directory n entry apart)
 
 -- ---- the sweeper's step at a server, which is the one that it needs
@@ -101,7 +101,7 @@ module _ (script : Script) (old : Ended) (is : IsEnded script old) where
 
   -- its list is that of the whole histories
   sweeping : IsSweeping script (own_at its is.logs) old.sweeper.at
-  sweeping = subst (λ (at : Place → List MadeStep). IsSweeping script at old.sweeper.at) (λ i place. sym (is.all.saw_swept place) i) is.all.sweeping
+  sweeping = subst (λ (at : ActPlace → List MadeStep). IsSweeping script at old.sweeper.at) (λ i place. sym (is.all.saw_swept place) i) is.all.sweeping
 
   next_is : (act : Act) → act_of old.sweeper ≡ act → next_sweep (chunk_count script.geometry) old.sweeper.at ≡ act
   next_is act acts = subst (λ (n : ℕ). next_sweep n old.sweeper.at ≡ act) is.servers acts
@@ -116,7 +116,7 @@ module _ (script : Script) (old : Ended) (is : IsEnded script old) where
       subst (λ (s : SweeperOf). P s.at) (sym hears) (subst (λ (n : ℕ). P (after_sweep n old.sweeper.at answer)) (sym is.servers) h)
 
   -- ---- with histories in which the entries of all others are the same
-  module _ (directory : Sealed) (servers : Vec ServerState Global) (sweeper : SweeperOf) (logs : Logs) (others : (n : ℕ) → n ≢ its → (place : Place) → own_at n logs place ≡ own_at n is.logs place)
+  module _ (directory : Sealed) (servers : Vec ServerState Global) (sweeper : SweeperOf) (logs : Logs) (others : (n : ℕ) → n ≢ its → (place : ActPlace) → own_at n logs place ≡ own_at n is.logs place)
       (grown : IsPrefix is.logs.directory logs.directory) (stand : PlacesStand script directory (map core_of servers.items) logs)
       (numbered : (k : ℕ) (server : ServerState) → slice_get servers.items k ≡ Some server → server.number ≡ k) (sweeps : IsSweeping script (own_at its logs) sweeper.at) (width : sweeper.servers ≡ old.sweeper.servers) (same_book : directory.book ≡ old.directory.book) where
     still : (n : ℕ) (who : Actor) (work : Work) (caller : CallerOf) → n ≢ its → HasEnded script is.logs n who work caller → HasEnded script logs n who work caller

@@ -3,7 +3,7 @@ use Rattle.std.specs.Prelude.{ℕ, false, Option, None, Some}
 use Rattle.store_map.specs.declared.actor.Actor.{Actor}
 use Rattle.store_core.specs.Told.{Told}
 use Rattle.store_core.specs.Act.{Act}
-use Rattle.store_core.specs.ActPlace.{Place, place_of}
+use Rattle.store_core.specs.ActPlace.{ActPlace, place_of}
 use Rattle.store_core.specs.Directory.{Directory}
 use Rattle.store_core.specs.AtDirectory.{at_directory}
 use Rattle.store_core.specs.Server.{Server, at_server}
@@ -27,9 +27,9 @@ abbrev pub act_of : SweeperOf → Act
 act_of w = next_sweep w.servers w.at
 
 -- where that is done
-abbrev pub need_at : Option Place → Need
-need_at (Some Place.Directory) = need.Directory
-need_at (Some (Place.Server server)) = need.Server server
+abbrev pub need_at : Option ActPlace → Need
+need_at (Some ActPlace.Directory) = need.Directory
+need_at (Some (ActPlace.Server server)) = need.Server server
 need_at None = need.Finished
 
 -- what it needs

@@ -2,7 +2,7 @@
 use Rattle.std.proofs.Common.{◌≡◌, ℕ, Bool, true, false, refl, sym, ap, subst, eq-eqb}
 use Rattle.store_core.specs.Told.{Told}
 use Rattle.store_core.specs.Act.{Act, DirectoryStep, ServerStep}
-use Rattle.store_core.specs.ActPlace.{Place}
+use Rattle.store_core.specs.ActPlace.{ActPlace}
 use Rattle.store_core.specs.Tokens.{actor_of}
 use Rattle.store_core.specs.Directory.{Directory}
 use Rattle.store_core.specs.Server.{Server}
@@ -22,7 +22,7 @@ made_with c short answer moment act =
 
 -- at a server
 pub record IsServerStep (server : ℕ) (s now : Server) (c after : CallOf) (short due : Bool) (m : MadeStep) : Type 0 where
-  pub here : is_at (Place.Server server) m ≡ true
+  pub here : is_at (ActPlace.Server server) m ≡ true
   pub answers : ServerAnswers m s
   pub leads : now ≡ server_next m s
   pub call : after ≡ heard c m.act m.answer short due
@@ -36,7 +36,7 @@ server_step c after server s now short due moment needed stepped =
 
 -- at the directory
 pub record IsDirectoryStep (d now : Directory) (c after : CallOf) (short due : Bool) (m : MadeStep) : Type 0 where
-  pub here : is_at Place.Directory m ≡ true
+  pub here : is_at ActPlace.Directory m ≡ true
   pub answers : DirectoryAnswers m d
   pub leads : now ≡ directory_next m d
   pub call : after ≡ record (heard c m.act m.answer short due) { token = token_by m.act m c.token }

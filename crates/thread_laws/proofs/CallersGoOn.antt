@@ -7,7 +7,7 @@ use Rattle.store_map.specs.declared.actor.Actor.{Actor}
 use Rattle.store_map.specs.declared.script.Script.{Script}
 use Rattle.store_core.specs.Told.{Told}
 use Rattle.store_core.specs.Act.{Act}
-use Rattle.store_core.specs.ActPlace.{Place, is_in_pass}
+use Rattle.store_core.specs.ActPlace.{ActPlace, is_in_pass}
 use Rattle.store_core.specs.Agreement.{ActorToken}
 use Rattle.store_core.specs.NextAct.{Job, next_act}
 use Rattle.store_core.specs.Step.{told_first, after_answer}
@@ -72,7 +72,7 @@ heard_by (Act.AtServer server step) a c e = e
 
 -- one step more leads a ticket on, if it is at the directory
 token_more : (act : Act) (m : MadeStep) (steps : List MadeStep) (token : ActorToken) → m.act ≡ act → IsAtAPlace act
-    → tokens_after (steps ++ cond {A = List MadeStep} (acts_at Place.Directory act) (m ∷ []) []) token ≡ token_by act m (tokens_after steps token)
+    → tokens_after (steps ++ cond {A = List MadeStep} (acts_at ActPlace.Directory act) (m ∷ []) []) token ≡ token_by act m (tokens_after steps token)
 token_more (Act.AtDirectory step) m steps token e placed = tokens_more steps m token ∙ ap (λ act. token_by act m (tokens_after steps token)) e
 token_more (Act.AtServer server step) m steps token e placed = ap (λ l. tokens_after l token) (append-nil steps)
 token_more (Act.Finish outcome) m steps token e placed = absurd placed
@@ -80,7 +80,7 @@ token_more (Act.Finish outcome) m steps token e placed = absurd placed
 trans_le : (a b s t bound : ℕ) → s + a ≤ t + b → t + b ≤ bound → s + a ≤ bound
 trans_le a b s t bound e f = omega (arith, e, f)
 
-module _ (script : Script) (who : Actor) (work : Work) (at after : Place → List MadeStep) (a : ActorOf) (c now : CallOf) (answer : Told) (moment : ℕ) (acting : IsCalling script who work at a) (its : IsReady script who work a c) where
+module _ (script : Script) (who : Actor) (work : Work) (at after : ActPlace → List MadeStep) (a : ActorOf) (c now : CallOf) (answer : Told) (moment : ℕ) (acting : IsCalling script who work at a) (its : IsReady script who work a c) where
   abbrev m : MadeStep
   m = made_by c now.step answer moment
 
@@ -167,8 +167,8 @@ module _ (script : Script) (who : Actor) (work : Work) (at after : Place → Lis
           listed = listed;
           stands = stands_after hears;
           token =
-              ap (λ l. tokens_after l (first_token who)) (one.more.lists Place.Directory)
-              ∙ (token_more m.act m (at Place.Directory) (first_token who) refl placed
+              ap (λ l. tokens_after l (first_token who)) (one.more.lists ActPlace.Directory)
+              ∙ (token_more m.act m (at ActPlace.Directory) (first_token who) refl placed
               ∙ (ap (token_by m.act m) (acting.token ∙ sym (held ∙ first_held)) ∙ (sym (ap (λ (x : CallOf). x.token) is) ∙ sym (after_token a now (act_of now)))));
           numbered = after_numbered a now (act_of now) next_numbers;
           heard = heard_by (act_of now) a now (ap (λ (x : CallOf). x.coding) is);

@@ -1,6 +1,6 @@
 -- A call before its step.
 use Rattle.std.proofs.Common.{◌≡◌, ◌+◌, length, sym, ap, subst, ◌∙◌}
-use Rattle.store_core.specs.ActPlace.{Place}
+use Rattle.store_core.specs.ActPlace.{ActPlace}
 use Rattle.store_core.specs.Tokens.{actor_of}
 use Rattle.call_steps.specs.CallOf.{CallOf}
 use Rattle.thread_laws.specs.Noted.{tokens_after}
@@ -18,7 +18,7 @@ calls_know_themselves script who work at a c acting its =
     record {
       whose = whose;
       token =
-          ap (λ x. tokens_after (at Place.Directory) (first_token x)) whose
+          ap (λ x. tokens_after (at ActPlace.Directory) (first_token x)) whose
           ∙ (acting.token ∙ (sym (before_token script work a.ended a.doing its.first its.turn.call) ∙ sym held));
       number = ap (λ (x : CallOf). x.number) its.is ∙ (number_coded its.first.due its.coding its.first ∙ numbers.next);
       used = subst (λ t. IsUsedBelow (length a.ended + 1) t) (sym held) numbers.used;

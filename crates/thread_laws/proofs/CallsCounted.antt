@@ -9,7 +9,7 @@ use Rattle.store_map.specs.declared.script.Script.{Script}
 use Rattle.store_core.specs.Lists.{change_at}
 use Rattle.store_core.specs.Told.{Told}
 use Rattle.store_core.specs.Act.{Act}
-use Rattle.store_core.specs.ActPlace.{Place}
+use Rattle.store_core.specs.ActPlace.{ActPlace}
 use Rattle.store_core.specs.NextAct.{Job, next_act}
 use Rattle.store_core.specs.Tell.{tell}
 use Rattle.store_core.specs.Server.{raised_by}
@@ -57,13 +57,13 @@ plus_zero total = omega arith
 module _ (script : Script) (j : ℕ) where
   -- what a step took from the server
   abbrev here : MadeStep → ℕ
-  here m = cond (is_at (Place.Server j) m) (given m) 0
+  here m = cond (is_at (ActPlace.Server j) m) (given m) 0
 
   taken_cons : (m : MadeStep) (steps : List MadeStep) → taken_at j (m ∷ steps) ≡ here m + taken_at j steps
-  taken_cons m steps = by (is_at (Place.Server j) m)
+  taken_cons m steps = by (is_at (ActPlace.Server j) m)
     where
-      by : (b : Bool) → sum_by given (cond {A = List MadeStep} b (m ∷ filter (is_at (Place.Server j)) steps) (filter (is_at (Place.Server j)) steps)) ≡ cond b (given m) 0 + taken_at j steps
-      by true = sum_by-cons given m (filter (is_at (Place.Server j)) steps)
+      by : (b : Bool) → sum_by given (cond {A = List MadeStep} b (m ∷ filter (is_at (ActPlace.Server j)) steps) (filter (is_at (ActPlace.Server j)) steps)) ≡ cond b (given m) 0 + taken_at j steps
+      by true = sum_by-cons given m (filter (is_at (ActPlace.Server j)) steps)
       by false = omega arith
 
   took_length : (act : Act) (answer : Told) (takes : List ℕ) → length (take_from act answer takes) ≡ length takes
@@ -74,7 +74,7 @@ module _ (script : Script) (j : ℕ) where
 
   -- the count of the call in work
   took_counted : (act : Act) (answer : Told) (takes : List ℕ) (ended total : ℕ) → j < length takes → min (ended + get_or takes j 0) (2 ^ 64 - 1) ≡ min total (2 ^ 64 - 1)
-      → min (ended + get_or (take_from act answer takes) j 0) (2 ^ 64 - 1) ≡ min (total + cond (acts_at (Place.Server j) act) (given_by act answer) 0) (2 ^ 64 - 1)
+      → min (ended + get_or (take_from act answer takes) j 0) (2 ^ 64 - 1) ≡ min (total + cond (acts_at (ActPlace.Server j) act) (given_by act answer) 0) (2 ^ 64 - 1)
   took_counted (Act.AtServer server step) (Told.Given layers) takes ended total lt e = by (nat_eq j server) refl
     where
       by : (b : Bool) → nat_eq j server ≡ b → min (ended + get_or (change_at server (raised_by layers) takes) j 0) (2 ^ 64 - 1) ≡ min (total + cond b layers 0) (2 ^ 64 - 1)

@@ -5,7 +5,7 @@ use Rattle.std.proofs.lemmas.List.Elements.{All-push, filter-append}
 use Rattle.std.specs.Prelude.{All}
 use Rattle.store_map.specs.declared.actor.Actor.{Actor}
 use Rattle.store_core.specs.Act.{Act}
-use Rattle.store_core.specs.ActPlace.{Place}
+use Rattle.store_core.specs.ActPlace.{ActPlace}
 use Rattle.store_core.specs.Agreement.{ActorToken, Agrees}
 use Rattle.store_core.specs.Tokens.{actor_of}
 use Rattle.store_core.specs.Directory.{Directory, new_directory}
@@ -56,12 +56,12 @@ others_token who steps m other =
     (filter-append (is_by who) steps (m ∷ []) ∙ (ap (λ b. filter (is_by who) steps ++ cond {A = List MadeStep} b (m ∷ []) []) other ∙ append-nil (filter (is_by who) steps)))
 
 -- agreement with another actor's ticket stays
-others_stay : (m : MadeStep) (act : Act) (d : Directory) (token : ActorToken) → acts_at Place.Directory act ≡ true → same_actor m.actor (actor_of token) ≡ false → Agrees d token → Agrees (directory_act m act d).0 token
+others_stay : (m : MadeStep) (act : Act) (d : Directory) (token : ActorToken) → acts_at ActPlace.Directory act ≡ true → same_actor m.actor (actor_of token) ≡ false → Agrees d token → Agrees (directory_act m act d).0 token
 others_stay m (Act.AtDirectory step) d token here apart agrees = others_agree m.shortage.step m.actor m.number step d token apart agrees
 others_stay m (Act.AtServer server step) d token here apart agrees = agrees
 others_stay m (Act.Finish outcome) d token here apart agrees = agrees
 
-module _ (steps : List MadeStep) (m : MadeStep) (core after : Directory) (here : is_at Place.Directory m ≡ true) (leads : after ≡ directory_next m core)
+module _ (steps : List MadeStep) (m : MadeStep) (core after : Directory) (here : is_at ActPlace.Directory m ≡ true) (leads : after ≡ directory_next m core)
     (agree : (who : Actor) → IsCaller who → Agrees core (token_in who steps)) (own : IsCaller m.actor → Agrees after (token_by m.act m (token_in m.actor steps))) where
   by_actor : (who : Actor) → IsCaller who → (b : Bool) → is_by who m ≡ b → Agrees after (token_in who (steps ++ m ∷ []))
   by_actor who caller true mine =
@@ -89,7 +89,7 @@ directories_stand_on of max d now log entry h may =
           subst (λ (b : BookOf). AllCome directory_next DirectoryAnswers (made_in (log ++ entry ∷ [])) (first b)) (sym may.book)
           (subst (λ l. AllCome directory_next DirectoryAnswers l (first d.book)) (sym more)
           (come_more directory_next DirectoryAnswers steps (first d.book) m h.answers (subst (DirectoryAnswers m) h.ends may.answers)));
-      here = subst (λ l. All (λ (x : MadeStep). is_at Place.Directory x ≡ true) l) (sym more) (All-push (λ (x : MadeStep). is_at Place.Directory x ≡ true) steps m h.here may.here);
+      here = subst (λ l. All (λ (x : MadeStep). is_at ActPlace.Directory x ≡ true) l) (sym more) (All-push (λ (x : MadeStep). is_at ActPlace.Directory x ≡ true) steps m h.here may.here);
       rise = subst MomentsRise (sym more) (rises_on steps m h.rise may.above);
       turns = All-push (λ (e : ℕ × Noted). IsTurnOf of e.0 e.1.made.actor) log entry h.turns may.turn;
       stamps = may.stamps ∙ (ap (λ (l : List StampOf). l ++ entry.1.drawn) h.stamps ∙ sym (stamps_more log entry));

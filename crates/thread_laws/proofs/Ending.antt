@@ -11,7 +11,7 @@ use Rattle.store_map.specs.Limits.{size_of}
 use Rattle.store_map.specs.declared.actor.Actor.{Actor}
 use Rattle.store_map.specs.declared.actor.Actor.TheVariants as actor
 use Rattle.store_map.specs.declared.script.Script.{Script}
-use Rattle.store_core.specs.ActPlace.{Place}
+use Rattle.store_core.specs.ActPlace.{ActPlace}
 use Rattle.store_core.specs.Core.{first_core}
 use Rattle.store_core.specs.Directory.{new_directory}
 use Rattle.store_core.specs.Server.{Server, new_server}
@@ -48,13 +48,13 @@ use Rattle.thread_laws.proofs.Turns.{client_there, repairer_there, client_turn, 
 
 -- ---- a place
 -- what is known of the steps at a place: they are its own, their moments rise, each has a turn, and an actor's are those of its number
-record IsKnown (of : Counts) (place : Place) (steps : List MadeStep) (under : ℕ → List MadeStep) : Type 0 where
+record IsKnown (of : Counts) (place : ActPlace) (steps : List MadeStep) (under : ℕ → List MadeStep) : Type 0 where
   here : All (λ m. is_at place m ≡ true) steps
   rise : MomentsRise steps
   turned : All (λ (m : MadeStep). (number : ℕ) × IsTurnOf of number m.actor) steps
   own : (number : ℕ) (who : Actor) → IsTurnOf of number who → filter (is_by who) steps ≡ under number
 
-no_steps : (of : Counts) (place : Place) → IsKnown of place [] (λ _. [])
+no_steps : (of : Counts) (place : ActPlace) → IsKnown of place [] (λ _. [])
 no_steps of place =
     record {
       here = All-nil (λ m. is_at place m ≡ true);
@@ -63,7 +63,7 @@ no_steps of place =
       own = λ number who its. refl;
     }
 
-server_known : (of : Counts) (j : ℕ) (s : Server) (log : List (ℕ × MadeStep)) → StandsAtServer of j s log → IsKnown of (Place.Server j) (steps_in log) (λ number. steps_in (entries_of number log))
+server_known : (of : Counts) (j : ℕ) (s : Server) (log : List (ℕ × MadeStep)) → StandsAtServer of j s log → IsKnown of (ActPlace.Server j) (steps_in log) (λ number. steps_in (entries_of number log))
 server_known of j s log stands =
     record {
       here = stands.here;
@@ -103,7 +103,7 @@ module _ (script : Script) (d : Sealed) (servers : List Server) (logs : Logs) (s
   abbrev h : Histories
   h = run_lists n logs
 
-  abbrev at_of : Actor → Place → List MadeStep
+  abbrev at_of : Actor → ActPlace → List MadeStep
   at_of who place = filter (is_by who) (steps_at logs place)
 
   no_log : (j : ℕ) → n ≤ j → log_of logs j ≡ []
@@ -111,8 +111,8 @@ module _ (script : Script) (d : Sealed) (servers : List Server) (logs : Logs) (s
       let logged : length logs.servers ≡ n = stand.logged in
       ap (λ (o : Option (List (ℕ × MadeStep))). unwrap_or o []) (slice_get_past logs.servers j (omega (arith, le, logged)))
 
-  known : (place : Place) → IsKnown of_script place (steps_at logs place) (λ number. own_at number logs place)
-  known Place.Directory =
+  known : (place : ActPlace) → IsKnown of_script place (steps_at logs place) (λ number. own_at number logs place)
+  known ActPlace.Directory =
       let stands = stand.directory in
       record {
         here = stands.here;
@@ -123,14 +123,14 @@ module _ (script : Script) (d : Sealed) (servers : List Server) (logs : Logs) (s
             logs.directory stands.turns);
         own = λ number who its. entries_are (λ (note : Noted). note.made) of_script number who its logs.directory stands.turns;
       }
-  known (Place.Server j) = by (found_or_past servers j)
+  known (ActPlace.Server j) = by (found_or_past servers j)
     where
-      by : ((s : Server) × (j < length servers) × (slice_get servers j ≡ Some s)) ⊎ ((length servers ≤ j) × (slice_get servers j ≡ None)) → IsKnown of_script (Place.Server j) (steps_at logs (Place.Server j)) (λ number. own_at number logs (Place.Server j))
+      by : ((s : Server) × (j < length servers) × (slice_get servers j ≡ Some s)) ⊎ ((length servers ≤ j) × (slice_get servers j ≡ None)) → IsKnown of_script (ActPlace.Server j) (steps_at logs (ActPlace.Server j)) (λ number. own_at number logs (ActPlace.Server j))
       by (inl found) = server_known of_script j found.0 (log_of logs j) (stand.at_server j found.0 found.2)
       by (inr none) =
           let width : length servers ≡ n = stand.width in
           let past : length servers ≤ j = none.0 in
-          subst (λ (l : List (ℕ × MadeStep)). IsKnown of_script (Place.Server j) (steps_in l) (λ number. steps_in (entries_of number l))) (sym (no_log j (omega (arith, width, past)))) (no_steps of_script (Place.Server j))
+          subst (λ (l : List (ℕ × MadeStep)). IsKnown of_script (ActPlace.Server j) (steps_in l) (λ number. steps_in (entries_of number l))) (sym (no_log j (omega (arith, width, past)))) (no_steps of_script (ActPlace.Server j))
 
   -- ---- an actor
   own_of : (who : Actor) → AreOwn n (at_of who)
@@ -157,7 +157,7 @@ module _ (script : Script) (d : Sealed) (servers : List Server) (logs : Logs) (s
 
   listed_of : {S : Type 0} (next : MadeStep → S → S) (May : MadeStep → S → Type 0) (first now : S) (number : ℕ) (who : Actor) (seen : Logs) → IsTurnOf of_script number who → HasSeenOwn number seen logs
       → IsListed next May first n (own_at number seen) now → IsListed next May first n (at_of who) now
-  listed_of next May first now number who seen its saw listed = subst (λ (at : Place → List MadeStep). IsListed next May first n at now) (sym (seen_is number who seen its saw)) listed
+  listed_of next May first now number who seen its saw listed = subst (λ (at : ActPlace → List MadeStep). IsListed next May first n at now) (sym (seen_is number who seen its saw)) listed
 
   -- ---- a group of clients or repairers
   module _ (who_of : ℕ → Actor) (number_of : ℕ → ℕ) (works : List Work) (callers : List CallerOf) (count : ℕ) (work_count : length works ≡ count) (caller_count : length callers ≡ count)
@@ -341,29 +341,29 @@ module _ (script : Script) (d : Sealed) (servers : List Server) (logs : Logs) (s
             let past : length servers ≤ j = none.0 in
             inr (omega (arith, width, past), none.1)
 
-    servers_come : (j : ℕ) → ComeIfThere (AllCome server_next ServerAnswers) (steps_at logs (Place.Server j)) (slice_get (replicate n new_server) j)
+    servers_come : (j : ℕ) → ComeIfThere (AllCome server_next ServerAnswers) (steps_at logs (ActPlace.Server j)) (slice_get (replicate n new_server) j)
     servers_come j = by (server_cases j)
       where
         by : ((s : Server) × (j < n) × (slice_get servers j ≡ Some s) × StandsAtServer of_script j s (log_of logs j)) ⊎ ((n ≤ j) × (slice_get servers j ≡ None))
-            → ComeIfThere (AllCome server_next ServerAnswers) (steps_at logs (Place.Server j)) (slice_get (replicate n new_server) j)
+            → ComeIfThere (AllCome server_next ServerAnswers) (steps_at logs (ActPlace.Server j)) (slice_get (replicate n new_server) j)
         by (inl found) =
-            subst (λ o. ComeIfThere (AllCome server_next ServerAnswers) (steps_at logs (Place.Server j)) o) (sym (slice_get-replicate n j new_server found.1)) found.3.answers
+            subst (λ o. ComeIfThere (AllCome server_next ServerAnswers) (steps_at logs (ActPlace.Server j)) o) (sym (slice_get-replicate n j new_server found.1)) found.3.answers
         by (inr none) =
-            subst (λ o. ComeIfThere (AllCome server_next ServerAnswers) (steps_at logs (Place.Server j)) o) (sym (replicate_past n j new_server none.0)) (ap steps_in (no_log j none.0))
+            subst (λ o. ComeIfThere (AllCome server_next ServerAnswers) (steps_at logs (ActPlace.Server j)) o) (sym (replicate_past n j new_server none.0)) (ap steps_in (no_log j none.0))
 
-    servers_end : (j : ℕ) → slice_get servers j ≡ option_map (after_all server_next (steps_at logs (Place.Server j))) (slice_get (replicate n new_server) j)
+    servers_end : (j : ℕ) → slice_get servers j ≡ option_map (after_all server_next (steps_at logs (ActPlace.Server j))) (slice_get (replicate n new_server) j)
     servers_end j = by (server_cases j)
       where
         by : ((s : Server) × (j < n) × (slice_get servers j ≡ Some s) × StandsAtServer of_script j s (log_of logs j)) ⊎ ((n ≤ j) × (slice_get servers j ≡ None))
-            → slice_get servers j ≡ option_map (after_all server_next (steps_at logs (Place.Server j))) (slice_get (replicate n new_server) j)
+            → slice_get servers j ≡ option_map (after_all server_next (steps_at logs (ActPlace.Server j))) (slice_get (replicate n new_server) j)
         by (inl found) =
-            found.2 ∙ (ap Some found.3.ends ∙ ap (option_map (after_all server_next (steps_at logs (Place.Server j)))) (sym (slice_get-replicate n j new_server found.1)))
-        by (inr none) = none.1 ∙ ap (option_map (after_all server_next (steps_at logs (Place.Server j)))) (sym (replicate_past n j new_server none.0))
+            found.2 ∙ (ap Some found.3.ends ∙ ap (option_map (after_all server_next (steps_at logs (ActPlace.Server j)))) (sym (slice_get-replicate n j new_server found.1)))
+        by (inr none) = none.1 ∙ ap (option_map (after_all server_next (steps_at logs (ActPlace.Server j)))) (sym (replicate_past n j new_server none.0))
 
     go : GoOn script (lines_of script) (first_core script) h.at h.of
     go =
         record {
-          directory = subst (λ g. AllCome directory_next DirectoryAnswers (steps_at logs Place.Directory) (new_directory g (size_of script))) stand.book stand.directory.answers;
+          directory = subst (λ g. AllCome directory_next DirectoryAnswers (steps_at logs ActPlace.Directory) (new_directory g (size_of script))) stand.book stand.directory.answers;
           servers = servers_come;
           clients = of_clients.come;
           repairers = of_repairers.come;
@@ -374,7 +374,7 @@ module _ (script : Script) (d : Sealed) (servers : List Server) (logs : Logs) (s
     ends : EndAs script (first_core script) h.at h.of (end_of script d servers logs)
     ends =
         record {
-          directory = stand.directory.ends ∙ ap (λ g. after_all directory_next (steps_at logs Place.Directory) (new_directory g (size_of script))) stand.book;
+          directory = stand.directory.ends ∙ ap (λ g. after_all directory_next (steps_at logs ActPlace.Directory) (new_directory g (size_of script))) stand.book;
           servers = servers_end;
           clients = of_clients.ends;
           repairers = of_repairers.ends;

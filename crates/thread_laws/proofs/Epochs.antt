@@ -6,7 +6,7 @@ use Rattle.store_map.specs.declared.actor.Token.{Token}
 use Rattle.store_map.specs.declared.actor.Token.TheVariants as token
 use Rattle.hist_rules.specs.Counts.{is_wipe_of, wipes}
 use Rattle.store_core.specs.Act.{Act, ServerStep}
-use Rattle.store_core.specs.ActPlace.{Place}
+use Rattle.store_core.specs.ActPlace.{ActPlace}
 use Rattle.store_core.specs.Server.{Server, at_server, new_server}
 use Rattle.history_laws.proofs.ServerEpochs.{same_epoch}
 use Rattle.thread_laws.specs.AtPlaces.{after_all, server_act, server_next}
@@ -99,7 +99,7 @@ prefix_wiped some all p =
 -- ---- and those of the script's lines are its wipes
 module _ (server : ℕ) where
   abbrev here : List Token → List Act
-  here tokens = acts_there (Place.Server server) (filter is_line tokens)
+  here tokens = acts_there (ActPlace.Server server) (filter is_line tokens)
 
   count_cons : (t : Token) (ts : List Token) → count_by (is_wipe_of server) (t ∷ ts) ≡ one_if (is_wipe_of server t) + count_by (is_wipe_of server) ts
   count_cons t ts = sum_by-cons (λ x. cond {A = ℕ} (is_wipe_of server x) 1 0) t ts
@@ -134,4 +134,4 @@ epochs_are_wipes of script server s log stands operated =
     at_most s.epoch (wiped (acts_in steps)) (wiped (operated_in steps)) (wipes script server)
     (subst (λ (x : Server). x.epoch ≤ 0 + wiped (acts_in steps)) (sym stands.ends) (after_epoch steps new_server))
     (all_kept (acts_in steps))
-    (subst (λ (n : ℕ). wiped (operated_in steps) ≤ n) (lines_wiped server script.schedule) (prefix_wiped (operated_in steps) (acts_there (Place.Server server) (lines_of script)) operated.lines))
+    (subst (λ (n : ℕ). wiped (operated_in steps) ≤ n) (lines_wiped server script.schedule) (prefix_wiped (operated_in steps) (acts_there (ActPlace.Server server) (lines_of script)) operated.lines))

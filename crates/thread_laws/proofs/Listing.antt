@@ -3,7 +3,7 @@ use Rattle.std.proofs.Common.{◌≡◌, ℕ, ◌<◌, ◌≤◌, Bool, true, fa
 use Rattle.std.proofs.lemmas.List.{append-nil}
 use Rattle.std.proofs.lemmas.List.Elements.{All-nil, All-cons, All-head, All-tail, All-filter, filter-append, filter_passes}
 use Rattle.std.specs.Prelude.{All}
-use Rattle.store_core.specs.ActPlace.{Place}
+use Rattle.store_core.specs.ActPlace.{ActPlace}
 use Rattle.thread_laws.specs.MadeSteps.{MadeStep, is_at, MomentsRise}
 use Rattle.thread_laws.specs.AtPlaces.{after_all, AllCome}
 use Rattle.thread_laws.specs.OwnSteps.{own_steps, AreOwn}
@@ -23,12 +23,12 @@ below_last (m ∷ steps) k some h =
     let rest : last_of steps < k = below_last steps k some (All-tail (λ (x : MadeStep). x.moment < k) m steps h) in
     omega (arith, first, rest)
 
-module _ (servers : ℕ) (at after : Place → List MadeStep) (m : MadeStep) (own : AreOwn servers at) (one : IsOneMore servers at m after) where
+module _ (servers : ℕ) (at after : ActPlace → List MadeStep) (m : MadeStep) (own : AreOwn servers at) (one : IsOneMore servers at m after) where
   below : All (λ (x : MadeStep). x.moment < m.moment) (own_steps servers at)
   below = all_below (own_steps servers at) m.moment one.above
 
   -- its steps at a place are below the new one
-  below_at : (place : Place) → last_of (at place) < m.moment
+  below_at : (place : ActPlace) → last_of (at place) < m.moment
   below_at place =
       below_last (at place) m.moment (some_below (last_of (own_steps servers at)) m.moment one.above)
       (subst (All (λ (x : MadeStep). x.moment < m.moment)) (at_place servers at own place) (All-filter (is_at place) (λ (x : MadeStep). x.moment < m.moment) (own_steps servers at) below))
@@ -43,14 +43,14 @@ module _ (servers : ℕ) (at after : Place → List MadeStep) (m : MadeStep) (ow
             ∙ (λ k. own.here place k ++ filter_all (is_at place) added (filter_passes (is_at place) (m ∷ [])) k)
             ∙ sym (one.more.lists place);
         order = λ place. subst MomentsRise (sym (one.more.lists place)) (ordered place (is_at place m));
-        past = λ j le. one.more.lists (Place.Server j) ∙ (λ k. own.past j le k ++ none j le (is_at (Place.Server j) m) refl k);
+        past = λ j le. one.more.lists (ActPlace.Server j) ∙ (λ k. own.past j le k ++ none j le (is_at (ActPlace.Server j) m) refl k);
       }
     where
-      ordered : (place : Place) (b : Bool) → MomentsRise (at place ++ cond {A = List MadeStep} b (m ∷ []) [])
+      ordered : (place : ActPlace) (b : Bool) → MomentsRise (at place ++ cond {A = List MadeStep} b (m ∷ []) [])
       ordered place true = rises_on (at place) m (own.order place) (below_at place)
       ordered place false = subst MomentsRise (sym (append-nil (at place))) (own.order place)
 
-      none : (j : ℕ) → servers ≤ j → (b : Bool) → is_at (Place.Server j) m ≡ b → filter (is_at (Place.Server j)) (m ∷ []) ≡ []
+      none : (j : ℕ) → servers ≤ j → (b : Bool) → is_at (ActPlace.Server j) m ≡ b → filter (is_at (ActPlace.Server j)) (m ∷ []) ≡ []
       none j le true e = let lt : j < servers = one.within j e in absurd (omega (arith, le, lt))
       none j le false e = ap (λ b. cond {A = List MadeStep} b (m ∷ []) []) e
 

@@ -3,7 +3,7 @@ use Rattle.std.proofs.Common.{◌≡◌, ℕ, zero, suc, ◌+◌, ◌<◌, ◌�
 use Rattle.std.proofs.lemmas.List.Elements.{All-filter, All-head, All-tail, filter-append}
 use Rattle.std.specs.Prelude.{All}
 use Rattle.std.specs.List.{range_with_len, flat_map, slice_get}
-use Rattle.store_core.specs.ActPlace.{Place}
+use Rattle.store_core.specs.ActPlace.{ActPlace}
 use Rattle.thread_laws.specs.MadeSteps.{MadeStep, MomentsRise}
 use Rattle.thread_laws.specs.InOrder.{by_moment}
 use Rattle.thread_laws.specs.OwnSteps.{own_steps}
@@ -40,14 +40,14 @@ empty_group of each start zero = refl
 empty_group of each start (suc count) = λ k. each start k ++ empty_group of each (start + 1) count k
 
 -- what passes at each place passes in the whole list
-pub own_passes : (p : MadeStep → Bool) (servers : ℕ) (at : Place → List MadeStep) → ((place : Place) → filter p (at place) ≡ at place) → filter p (own_steps servers at) ≡ own_steps servers at
+pub own_passes : (p : MadeStep → Bool) (servers : ℕ) (at : ActPlace → List MadeStep) → ((place : ActPlace) → filter p (at place) ≡ at place) → filter p (own_steps servers at) ≡ own_steps servers at
 own_passes p servers at each =
-    filter_by_moment p (at Place.Directory ++ flat_map (λ j. at (Place.Server j)) (range_with_len 0 servers))
-    ∙ ap by_moment (filter-append p (at Place.Directory) (flat_map (λ j. at (Place.Server j)) (range_with_len 0 servers))
-    ∙ (λ k. each Place.Directory k ++ filter_group p (λ j. at (Place.Server j)) (λ j. each (Place.Server j)) 0 servers k))
+    filter_by_moment p (at ActPlace.Directory ++ flat_map (λ j. at (ActPlace.Server j)) (range_with_len 0 servers))
+    ∙ ap by_moment (filter-append p (at ActPlace.Directory) (flat_map (λ j. at (ActPlace.Server j)) (range_with_len 0 servers))
+    ∙ (λ k. each ActPlace.Directory k ++ filter_group p (λ j. at (ActPlace.Server j)) (λ j. each (ActPlace.Server j)) 0 servers k))
 
-pub own_empty : (servers : ℕ) (at : Place → List MadeStep) → ((place : Place) → at place ≡ []) → own_steps servers at ≡ []
-own_empty servers at each = λ k. by_moment (each Place.Directory k ++ empty_group (λ j. at (Place.Server j)) (λ j. each (Place.Server j)) 0 servers k)
+pub own_empty : (servers : ℕ) (at : ActPlace → List MadeStep) → ((place : ActPlace) → at place ≡ []) → own_steps servers at ≡ []
+own_empty servers at each = λ k. by_moment (each ActPlace.Directory k ++ empty_group (λ j. at (ActPlace.Server j)) (λ j. each (ActPlace.Server j)) 0 servers k)
 
 -- ---- numbered lists
 module _ {Y : Type 0} (f : ℕ → Y) where

@@ -8,7 +8,7 @@ use Rattle.store_map.specs.declared.actor.Token.{Token}
 use Rattle.store_map.specs.declared.script.ClientPart.{ClientPart}
 use Rattle.store_map.specs.declared.script.Script.{Script}
 use Rattle.store_core.specs.Act.{Act, DirectoryStep}
-use Rattle.store_core.specs.ActPlace.{Place, is_in_pass}
+use Rattle.store_core.specs.ActPlace.{ActPlace, is_in_pass}
 use Rattle.store_core.specs.AtDirectory.{at_directory}
 use Rattle.store_core.specs.Calls.{IsNoteOf}
 use Rattle.store_core.specs.Conditions.{MayStep}
@@ -112,9 +112,9 @@ module _ (script : Script) (can : CanRun script) (core : Core) (kept : RunKeeps 
   pub answer_is : (lines : List Token) (rest : List MadeStep) → GoesOn script lines core (m ∷ rest)
       → (at_directory m.shortage.step (actor.Client i) number (DirectoryStep.Look look.note) core.directory).1 ≡ Told.Pinned point look.length_now look.seen
   answer_is lines rest go =
-      let there : acts_at Place.Directory m.act ≡ true = ap (acts_at Place.Directory) look.act in
-      let come : AllCome directory_next DirectoryAnswers (m ∷ filter (is_at Place.Directory) rest) core.directory =
-      subst (λ (b : Bool). AllCome directory_next DirectoryAnswers (cond {A = List MadeStep} b (m ∷ filter (is_at Place.Directory) rest) (filter (is_at Place.Directory) rest)) core.directory) there go.directory in
+      let there : acts_at ActPlace.Directory m.act ≡ true = ap (acts_at ActPlace.Directory) look.act in
+      let come : AllCome directory_next DirectoryAnswers (m ∷ filter (is_at ActPlace.Directory) rest) core.directory =
+      subst (λ (b : Bool). AllCome directory_next DirectoryAnswers (cond {A = List MadeStep} b (m ∷ filter (is_at ActPlace.Directory) rest) (filter (is_at ActPlace.Directory) rest)) core.directory) there go.directory in
       (λ k. (at_directory m.shortage.step (sym look.by k) (sym look.of_call k) (DirectoryStep.Look look.note) core.directory).1) ∙ (λ k. (directory_act m (sym look.act k) core.directory).1) ∙ come.0 ∙ look.told
 
   -- and goes on after it

@@ -21,7 +21,7 @@ use Rattle.store_core.specs.Core.{Core, first_core}
 use Rattle.store_core.specs.Run.{Run}
 use Rattle.store_core.specs.Schedule.{run_tokens, run_core}
 use Rattle.store_core.proofs.Places.{slice_get-change_at}
-use Rattle.store_core.specs.ActPlace.{Place}
+use Rattle.store_core.specs.ActPlace.{ActPlace}
 use Rattle.thread_laws.specs.MadeSteps.{MadeStep, is_by, is_at}
 use Rattle.thread_laws.specs.AtPlaces.{after_all, AllCome, directory_next, DirectoryAnswers, server_next, ServerAnswers}
 use Rattle.thread_laws.specs.ByActors.{calling_next, IsNext, sweeper_next, IsNextSweep}
@@ -105,33 +105,33 @@ module _ (script : Script) (number : ℕ) (shortage : Shortage) (answer : Told) 
   abbrev pub made : Actor → Act → MadeStep
   made who act = made_by who number shortage answer moment act
 
-  abbrev pub At : List MadeStep → Place → List MadeStep
+  abbrev pub At : List MadeStep → ActPlace → List MadeStep
   At steps place = filter (is_at place) steps
 
   abbrev pub Of : List MadeStep → Actor → List MadeStep
   Of steps who = filter (is_by who) steps
 
   module _ (who : Actor) where
-    directory_goes : (act : Act) (d : Directory) → AllCome directory_next DirectoryAnswers (At (made who act ∷ more) Place.Directory) d → AllCome directory_next DirectoryAnswers (At more Place.Directory) (directory_next (made who act) d)
+    directory_goes : (act : Act) (d : Directory) → AllCome directory_next DirectoryAnswers (At (made who act ∷ more) ActPlace.Directory) d → AllCome directory_next DirectoryAnswers (At more ActPlace.Directory) (directory_next (made who act) d)
     directory_goes (Act.AtDirectory step) d h = h.1
     directory_goes (Act.AtServer server step) d h = h
     directory_goes (Act.Finish outcome) d h = h
 
-    pub directory_ends : (act : Act) (d : Directory) → after_all directory_next (At more Place.Directory) (directory_next (made who act) d) ≡ after_all directory_next (At (made who act ∷ more) Place.Directory) d
+    pub directory_ends : (act : Act) (d : Directory) → after_all directory_next (At more ActPlace.Directory) (directory_next (made who act) d) ≡ after_all directory_next (At (made who act ∷ more) ActPlace.Directory) d
     directory_ends (Act.AtDirectory step) d = refl
     directory_ends (Act.AtServer server step) d = refl
     directory_ends (Act.Finish outcome) d = refl
 
-    servers_go : (act : Act) (servers : List Server) (j : ℕ) → ComeIfThere (AllCome server_next ServerAnswers) (At (made who act ∷ more) (Place.Server j)) (slice_get servers j)
-        → ComeIfThere (AllCome server_next ServerAnswers) (At more (Place.Server j)) (slice_get (servers_after (made who act) act servers) j)
+    servers_go : (act : Act) (servers : List Server) (j : ℕ) → ComeIfThere (AllCome server_next ServerAnswers) (At (made who act ∷ more) (ActPlace.Server j)) (slice_get servers j)
+        → ComeIfThere (AllCome server_next ServerAnswers) (At more (ActPlace.Server j)) (slice_get (servers_after (made who act) act servers) j)
     servers_go (Act.AtDirectory step) servers j h = h
-    servers_go (Act.AtServer server step) servers j h = one_goes server_next ServerAnswers (made who (Act.AtServer server step)) (At more (Place.Server j)) (nat_eq j server) server j servers refl h
+    servers_go (Act.AtServer server step) servers j h = one_goes server_next ServerAnswers (made who (Act.AtServer server step)) (At more (ActPlace.Server j)) (nat_eq j server) server j servers refl h
     servers_go (Act.Finish outcome) servers j h = h
 
     servers_end : (act : Act) (servers : List Server) (j : ℕ)
-        → option_map (after_all server_next (At more (Place.Server j))) (slice_get (servers_after (made who act) act servers) j) ≡ option_map (after_all server_next (At (made who act ∷ more) (Place.Server j))) (slice_get servers j)
+        → option_map (after_all server_next (At more (ActPlace.Server j))) (slice_get (servers_after (made who act) act servers) j) ≡ option_map (after_all server_next (At (made who act ∷ more) (ActPlace.Server j))) (slice_get servers j)
     servers_end (Act.AtDirectory step) servers j = refl
-    servers_end (Act.AtServer server step) servers j = one_ends server_next ServerAnswers (made who (Act.AtServer server step)) (At more (Place.Server j)) (nat_eq j server) server j servers refl
+    servers_end (Act.AtServer server step) servers j = one_ends server_next ServerAnswers (made who (Act.AtServer server step)) (At more (ActPlace.Server j)) (nat_eq j server) server j servers refl
     servers_end (Act.Finish outcome) servers j = refl
 
   module _ (act : Act) where
@@ -243,12 +243,12 @@ merged script (m ∷ more) lines core go =
 pub merges : Merges
 merges script lines h steps twice go order =
     let end : Core = run_core script (map (λ (m : MadeStep). m.shortage) steps) (map token_of steps) in
-    let at : Place → List MadeStep = λ place. filter (is_at place) steps in
+    let at : ActPlace → List MadeStep = λ place. filter (is_at place) steps in
     let of : Actor → List MadeStep = λ who. filter (is_by who) steps in
     let places : at ≡ h.at = λ i place. place_in_order h steps twice order place i in
     let actors : of ≡ h.of = λ i who. order.of who i in
     let filtered : GoOn script lines (first_core script) at of =
-    subst (λ (f : Place → List MadeStep). GoOn script lines (first_core script) f of) (sym places)
+    subst (λ (f : ActPlace → List MadeStep). GoOn script lines (first_core script) f of) (sym places)
     (subst (λ (f : Actor → List MadeStep). GoOn script lines (first_core script) h.at f) (sym actors) go) in
-    subst (λ (f : Place → List MadeStep). EndAs script (first_core script) f h.of end) places
+    subst (λ (f : ActPlace → List MadeStep). EndAs script (first_core script) f h.of end) places
     (subst (λ (f : Actor → List MadeStep). EndAs script (first_core script) at f end) actors (merged script steps lines (first_core script) filtered))

@@ -10,7 +10,7 @@ use Rattle.store_map.specs.declared.actor.Actor.TheVariants as actor
 use Rattle.store_map.specs.declared.actor.Token.{Token}
 use Rattle.store_map.specs.declared.script.Script.{Script}
 use Rattle.store_core.specs.Act.{Act, DirectoryStep, ServerStep, Outcome}
-use Rattle.store_core.specs.ActPlace.{Place}
+use Rattle.store_core.specs.ActPlace.{ActPlace}
 use Rattle.store_core.specs.Gathering.{Part}
 use Rattle.store_core.specs.Lookups.{same_actor}
 use Rattle.store_core.specs.NextAct.{Job}
@@ -55,7 +55,7 @@ operated_more steps m b is =
     ∙ (filter-append is_operators (acts_in steps) (m.act ∷ []) ∙ ap (λ (c : Bool). operated_in steps ++ cond {A = List Act} c (m.act ∷ []) []) is)
 
 -- of a step of another actor
-pub others_operated : (script : Option Script) (place : Place) (steps : List MadeStep) (m : MadeStep) → IsOthers m → IsOperated script place steps → IsOperated script place (steps ++ m ∷ [])
+pub others_operated : (script : Option Script) (place : ActPlace) (steps : List MadeStep) (m : MadeStep) → IsOthers m → IsOperated script place steps → IsOperated script place (steps ++ m ∷ [])
 others_operated script place steps m other is =
     record {
       whose = All-push IsHis steps m is.whose (other.0 ∙ sym other.1);
@@ -75,7 +75,7 @@ operated_own (m ∷ steps) his =
     ∙ one_placed (is_by actor.Operator m) m (operated_in steps) (filter (is_by actor.Operator) steps) (operated_own steps (All-tail IsHis m steps his))
 
 -- its next line
-module _ (place : Place) (steps own : List MadeStep) (m : MadeStep) (ours_are : filter (is_by actor.Operator) steps ≡ own) (its : m.actor ≡ actor.Operator) (theirs : is_operators m.act ≡ true) where
+module _ (place : ActPlace) (steps own : List MadeStep) (m : MadeStep) (ours_are : filter (is_by actor.Operator) steps ≡ own) (its : m.actor ≡ actor.Operator) (theirs : is_operators m.act ≡ true) where
   line_more : All IsHis steps → operated_in (steps ++ m ∷ []) ≡ acts_in own ++ m.act ∷ []
   line_more his = operated_more steps m true theirs ∙ ap (λ (l : List Act). l ++ m.act ∷ []) (operated_own steps his ∙ ap acts_in ours_are)
 
@@ -89,23 +89,23 @@ module _ (place : Place) (steps own : List MadeStep) (m : MadeStep) (ours_are : 
       record { whose = All-push IsHis steps m is.whose (theirs ∙ sym (ap (same_actor actor.Operator) its)); lines = next_lines script is.whose next }
 
 -- ---- in a history
-pub none_operated : (script : Option Script) (place : Place) → IsOperated script place []
+pub none_operated : (script : Option Script) (place : ActPlace) → IsOperated script place []
 none_operated script place = record { whose = All-nil IsHis; lines = by script }
   where
     by : (s : Option Script) → IfSome s (λ (x : Script). IsPrefix [] (acts_there place (lines_of x)))
     by None = tt
     by (Some x) = (acts_there place (lines_of x), refl)
 
-pub others_at_server : (script : Option Script) (place : Place) (log : List (ℕ × MadeStep)) (entry : ℕ × MadeStep) → IsOthers entry.1 → IsOperated script place (steps_in log)
+pub others_at_server : (script : Option Script) (place : ActPlace) (log : List (ℕ × MadeStep)) (entry : ℕ × MadeStep) → IsOthers entry.1 → IsOperated script place (steps_in log)
     → IsOperated script place (steps_in (log ++ entry ∷ []))
 others_at_server script place log entry other is = subst (IsOperated script place) (sym (steps_more log entry)) (others_operated script place (steps_in log) entry.1 other is)
 
-pub others_at_directory : (script : Option Script) (place : Place) (log : List (ℕ × Noted)) (entry : ℕ × Noted) → IsOthers entry.1.made → IsOperated script place (made_in log)
+pub others_at_directory : (script : Option Script) (place : ActPlace) (log : List (ℕ × Noted)) (entry : ℕ × Noted) → IsOthers entry.1.made → IsOperated script place (made_in log)
     → IsOperated script place (made_in (log ++ entry ∷ []))
 others_at_directory script place log entry other is =
     subst (IsOperated script place) (sym (notes_more (λ (n : Noted). n.made) log entry)) (others_operated script place (made_in log) entry.1.made other is)
 
-module _ (of : Counts) (script : Option Script) (place : Place) (number : ℕ) (turn : IsTurnOf of number actor.Operator) (numbers : List ℕ) (among : Among number numbers) where
+module _ (of : Counts) (script : Option Script) (place : ActPlace) (number : ℕ) (turn : IsTurnOf of number actor.Operator) (numbers : List ℕ) (among : Among number numbers) where
   pub line_at_server :
       (seen log : List (ℕ × MadeStep)) (m : MadeStep) → All (λ (entry : ℕ × MadeStep). IsTurnOf of entry.0 entry.1.actor) log → GoesOn numbers seen log → m.actor ≡ actor.Operator → is_operators m.act ≡ true
       → IfSome script (λ (s : Script). IsNextThere s place (steps_in (entries_of number seen)) m.act) → IsOperated script place (steps_in log) → IsOperated script place (steps_in (log ++ (number, m) ∷ []))
@@ -127,7 +127,7 @@ listed [] lines come = refl
 listed (m ∷ steps) [] come = absurd come.0
 listed (m ∷ steps) (line ∷ lines) come = ap (λ (o : Option Act). act_listed o ++ acts_of lines) come.0.0 ∙ ap (λ (l : List Act). m.act ∷ l) (listed steps lines come.1)
 
-placed : (place : Place) (steps : List MadeStep) → filter (acts_at place) (acts_in steps) ≡ acts_in (filter (is_at place) steps)
+placed : (place : ActPlace) (steps : List MadeStep) → filter (acts_at place) (acts_in steps) ≡ acts_in (filter (is_at place) steps)
 placed place [] = refl
 placed place (m ∷ steps) = one_placed (is_at place m) m (filter (acts_at place) (acts_in steps)) (filter (is_at place) steps) (placed place steps)
 

@@ -4,7 +4,7 @@ use Rattle.std.proofs.lemmas.List.Elements.{All-filter, All-head}
 use Rattle.std.specs.Prelude.{All}
 use Rattle.store_map.specs.declared.actor.Actor.{Actor}
 use Rattle.store_map.specs.declared.actor.Actor.TheVariants as actor
-use Rattle.store_core.specs.ActPlace.{Place}
+use Rattle.store_core.specs.ActPlace.{ActPlace}
 use Rattle.store_core.specs.Lookups.{same_actor}
 use Rattle.thread_laws.specs.MadeSteps.{MadeStep, is_by, is_at, MomentsRise, MomentsDontFall}
 use Rattle.thread_laws.specs.Histories.{Histories, StandTwice, IsInOrder}
@@ -87,7 +87,7 @@ same_order (x ∷ xs) (y ∷ ys) falls rises same = by (λ h. same_order xs ys f
         absurd (omega (arith, lt, le))
 
 -- each place's list is the part of the ordered list that is at this place
-pub place_in_order : (h : Histories) (steps : List MadeStep) → StandTwice h → IsInOrder h steps → (place : Place) → filter (is_at place) steps ≡ h.at place
+pub place_in_order : (h : Histories) (steps : List MadeStep) → StandTwice h → IsInOrder h steps → (place : ActPlace) → filter (is_at place) steps ≡ h.at place
 place_in_order h steps twice order place =
     same_order (filter (is_at place) steps) (h.at place) (filter_falls (is_at place) steps order.order) (twice.rise_at place)
     (λ who. filter_swap (is_by who) (is_at place) steps ∙ ap (filter (is_at place)) (order.of who) ∙ sym (twice.both place who))

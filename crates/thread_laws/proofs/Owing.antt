@@ -10,7 +10,7 @@ use Rattle.store_map.specs.declared.actor.Actor.TheVariants as actor
 use Rattle.store_map.specs.declared.reply.Reply.TheVariants as reply
 use Rattle.store_map.specs.declared.script.Script.{Script}
 use Rattle.store_core.specs.Act.{DirectoryStep}
-use Rattle.store_core.specs.ActPlace.{Place}
+use Rattle.store_core.specs.ActPlace.{ActPlace}
 use Rattle.store_core.specs.AtDirectory.{at_directory}
 use Rattle.store_core.specs.Content.{contents_by}
 use Rattle.store_core.specs.Core.{Core, first_core}
@@ -43,7 +43,7 @@ use Rattle.thread_laws.proofs.Looking.{MayLook, may_look, answer_is, next_is}
 
 -- ---- at the look
 module _ (script : Script) (geometry : IsGeometry script.geometry) (valid : IsValid script) (i number place : ℕ) (bytes : List ℕ) (steps : List MadeStep) (was : WasOwed script steps i number place bytes)
-    (front back : List MadeStep) (before_is : filter (is_at Place.Directory) front ≡ was.before) (r : Reaches script front (was.look ∷ back) (first_core script)) where
+    (front back : List MadeStep) (before_is : filter (is_at ActPlace.Directory) front ≡ was.before) (r : Reaches script front (was.look ∷ back) (first_core script)) where
   abbrev core : Core
   core = along script front (first_core script)
 
@@ -130,16 +130,16 @@ pub owed_are_replies : OwedAreReplies
 owed_are_replies script lines h geometry valid twice go i number place bytes was =
     let steps : List MadeStep = in_order script h in
     let order : IsInOrder h steps = sorted script h twice lines go in
-    let places : (λ (place : Place). filter (is_at place) steps) ≡ h.at = λ k place. place_in_order h steps twice order place k in
+    let places : (λ (place : ActPlace). filter (is_at place) steps) ≡ h.at = λ k place. place_in_order h steps twice order place k in
     let actors : (λ (who : Actor). filter (is_by who) steps) ≡ h.of = λ k who. order.of who k in
     let filtered : GoesOn script lines (first_core script) steps =
-    subst (λ (f : Place → List MadeStep). GoOn script lines (first_core script) f (λ who. filter (is_by who) steps)) (sym places)
+    subst (λ (f : ActPlace → List MadeStep). GoOn script lines (first_core script) f (λ who. filter (is_by who) steps)) (sym places)
     (subst (λ (f : Actor → List MadeStep). GoOn script lines (first_core script) h.at f) (sym actors) go) in
-    let s : SplitAt (is_at Place.Directory) steps was.before was.look was.after =
-    split_at (is_at Place.Directory) steps was.before was.look was.after (place_in_order h steps twice order Place.Directory ∙ was.split) in
+    let s : SplitAt (is_at ActPlace.Directory) steps was.before was.look was.after =
+    split_at (is_at ActPlace.Directory) steps was.before was.look was.after (place_in_order h steps twice order ActPlace.Directory ∙ was.split) in
     let r : Reaches script s.front (was.look ∷ s.back) (first_core script) =
     reaches script s.front (was.look ∷ s.back) lines (first_core script) (subst (GoesOn script lines (first_core script)) s.is filtered) in
-    is_reply script geometry valid i number place bytes (h.at Place.Directory) was s.front s.back s.before_is r
+    is_reply script geometry valid i number place bytes (h.at ActPlace.Directory) was s.front s.back s.before_is r
 
 pub owed_stay : OwedStay
 owed_stay script steps more i number place bytes was =

@@ -7,7 +7,7 @@ use Rattle.std.specs.List.{slice_get}
 use Rattle.store_map.specs.Limits.{size_of}
 use Rattle.store_map.specs.declared.actor.Actor.{Actor}
 use Rattle.store_map.specs.declared.actor.Actor.TheVariants as actor
-use Rattle.store_core.specs.ActPlace.{Place}
+use Rattle.store_core.specs.ActPlace.{ActPlace}
 use Rattle.store_core.specs.Agreement.{AgreesWithSeat, Agrees, AreBelow}
 use Rattle.store_core.specs.Directory.{Event, Point}
 use Rattle.store_core.specs.Note.{note_of}
@@ -83,7 +83,7 @@ directory_stands =
     record {
       ends = refl;
       answers = (refl, (refl, tt));
-      here = All-cons (λ m. is_at Place.Directory m ≡ true) first_stat (second_stat ∷ []) refl (All-cons (λ m. is_at Place.Directory m ≡ true) second_stat [] refl (All-nil (λ m. is_at Place.Directory m ≡ true)));
+      here = All-cons (λ m. is_at ActPlace.Directory m ≡ true) first_stat (second_stat ∷ []) refl (All-cons (λ m. is_at ActPlace.Directory m ≡ true) second_stat [] refl (All-nil (λ m. is_at ActPlace.Directory m ≡ true)));
       rise = (All-cons (λ (later : MadeStep). 1 < later.moment) second_stat [] (omega arith) (All-nil (λ (later : MadeStep). 1 < later.moment)), (All-nil (λ (later : MadeStep). 2 < later.moment), tt));
       turns =
           All-cons (λ (entry : ℕ × Noted). IsTurnOf (counts_of two_stats) entry.0 entry.1.made.actor) (0, record { made = first_stat; drawn = [] }) ((1, record { made = second_stat; drawn = [] }) ∷ []) (record { below = omega arith; whose = refl })
@@ -100,7 +100,7 @@ emptied =
     record {
       ends = refl;
       answers = (refl, tt);
-      here = All-cons (λ m. is_at (Place.Server 1) m ≡ true) the_wipe [] refl (All-nil (λ m. is_at (Place.Server 1) m ≡ true));
+      here = All-cons (λ m. is_at (ActPlace.Server 1) m ≡ true) the_wipe [] refl (All-nil (λ m. is_at (ActPlace.Server 1) m ≡ true));
       rise = (All-nil (λ (later : MadeStep). 1 < later.moment), tt);
       turns =
           All-cons (λ (entry : ℕ × MadeStep). IsTurnOf (counts_of two_stats) entry.0 entry.1.actor) (3, the_wipe) [] (record { below = omega arith; whose = refl })
@@ -119,25 +119,25 @@ abbrev work_at : ℕ → Work
 work_at i = unwrap_or (slice_get (client_work two_stats) i) (record { jobs = []; leave = None })
 
 -- at the servers the clients have no steps
-own_of : (i : ℕ) (m : MadeStep) → own_at i stats_logs Place.Directory ≡ m ∷ [] → is_at Place.Directory m ≡ true → ((j : ℕ) → own_at i stats_logs (Place.Server j) ≡ []) → AreOwn 4 (own_at i stats_logs)
+own_of : (i : ℕ) (m : MadeStep) → own_at i stats_logs ActPlace.Directory ≡ m ∷ [] → is_at ActPlace.Directory m ≡ true → ((j : ℕ) → own_at i stats_logs (ActPlace.Server j) ≡ []) → AreOwn 4 (own_at i stats_logs)
 own_of i m is here none = record { here = each; order = rises; past = λ j _. none j }
   where
-    each : (place : Place) → filter (is_at place) (own_at i stats_logs place) ≡ own_at i stats_logs place
-    each Place.Directory = ap (filter (is_at Place.Directory)) is ∙ (ap (λ b. cond {A = List MadeStep} b (m ∷ []) []) here ∙ sym is)
-    each (Place.Server j) = ap (filter (is_at (Place.Server j))) (none j) ∙ sym (none j)
+    each : (place : ActPlace) → filter (is_at place) (own_at i stats_logs place) ≡ own_at i stats_logs place
+    each ActPlace.Directory = ap (filter (is_at ActPlace.Directory)) is ∙ (ap (λ b. cond {A = List MadeStep} b (m ∷ []) []) here ∙ sym is)
+    each (ActPlace.Server j) = ap (filter (is_at (ActPlace.Server j))) (none j) ∙ sym (none j)
 
-    rises : (place : Place) → MomentsRise (own_at i stats_logs place)
-    rises Place.Directory = subst MomentsRise (sym is) (All-nil (λ (later : MadeStep). m.moment < later.moment), tt)
-    rises (Place.Server j) = subst MomentsRise (sym (none j)) tt
+    rises : (place : ActPlace) → MomentsRise (own_at i stats_logs place)
+    rises ActPlace.Directory = subst MomentsRise (sym is) (All-nil (λ (later : MadeStep). m.moment < later.moment), tt)
+    rises (ActPlace.Server j) = subst MomentsRise (sym (none j)) tt
 
-first_none : (j : ℕ) → own_at 0 stats_logs (Place.Server j) ≡ []
+first_none : (j : ℕ) → own_at 0 stats_logs (ActPlace.Server j) ≡ []
 first_none zero = refl
 first_none (suc zero) = refl
 first_none (suc (suc zero)) = refl
 first_none (suc (suc (suc zero))) = refl
 first_none (suc (suc (suc (suc j)))) = refl
 
-second_none : (j : ℕ) → own_at 1 stats_logs (Place.Server j) ≡ []
+second_none : (j : ℕ) → own_at 1 stats_logs (ActPlace.Server j) ≡ []
 second_none zero = refl
 second_none (suc zero) = refl
 second_none (suc (suc zero)) = refl
@@ -191,13 +191,13 @@ clients_ended (suc zero) work caller e f =
 clients_ended (suc (suc i)) work caller e f = absurd (none-some caller f)
 
 -- the sweeper has made no step
-swept_none : (place : Place) → own_at 2 stats_logs place ≡ []
-swept_none Place.Directory = refl
-swept_none (Place.Server zero) = refl
-swept_none (Place.Server (suc zero)) = refl
-swept_none (Place.Server (suc (suc zero))) = refl
-swept_none (Place.Server (suc (suc (suc zero)))) = refl
-swept_none (Place.Server (suc (suc (suc (suc j))))) = refl
+swept_none : (place : ActPlace) → own_at 2 stats_logs place ≡ []
+swept_none ActPlace.Directory = refl
+swept_none (ActPlace.Server zero) = refl
+swept_none (ActPlace.Server (suc zero)) = refl
+swept_none (ActPlace.Server (suc (suc zero))) = refl
+swept_none (ActPlace.Server (suc (suc (suc zero)))) = refl
+swept_none (ActPlace.Server (suc (suc (suc (suc j))))) = refl
 
 -- the operator
 operated : IsOperating two_stats (own_at 3 stats_logs) []
@@ -209,23 +209,23 @@ operated =
       leads = refl;
     }
   where
-    each : (place : Place) → filter (is_at place) (own_at 3 stats_logs place) ≡ own_at 3 stats_logs place
-    each Place.Directory = refl
-    each (Place.Server zero) = refl
-    each (Place.Server (suc zero)) = refl
-    each (Place.Server (suc (suc zero))) = refl
-    each (Place.Server (suc (suc (suc zero)))) = refl
-    each (Place.Server (suc (suc (suc (suc j))))) = refl
+    each : (place : ActPlace) → filter (is_at place) (own_at 3 stats_logs place) ≡ own_at 3 stats_logs place
+    each ActPlace.Directory = refl
+    each (ActPlace.Server zero) = refl
+    each (ActPlace.Server (suc zero)) = refl
+    each (ActPlace.Server (suc (suc zero))) = refl
+    each (ActPlace.Server (suc (suc (suc zero)))) = refl
+    each (ActPlace.Server (suc (suc (suc (suc j))))) = refl
 
-    rises : (place : Place) → MomentsRise (own_at 3 stats_logs place)
-    rises Place.Directory = tt
-    rises (Place.Server zero) = tt
-    rises (Place.Server (suc zero)) = (All-nil (λ (later : MadeStep). 1 < later.moment), tt)
-    rises (Place.Server (suc (suc zero))) = tt
-    rises (Place.Server (suc (suc (suc zero)))) = tt
-    rises (Place.Server (suc (suc (suc (suc j))))) = tt
+    rises : (place : ActPlace) → MomentsRise (own_at 3 stats_logs place)
+    rises ActPlace.Directory = tt
+    rises (ActPlace.Server zero) = tt
+    rises (ActPlace.Server (suc zero)) = (All-nil (λ (later : MadeStep). 1 < later.moment), tt)
+    rises (ActPlace.Server (suc (suc zero))) = tt
+    rises (ActPlace.Server (suc (suc (suc zero)))) = tt
+    rises (ActPlace.Server (suc (suc (suc (suc j))))) = tt
 
-    past : (j : ℕ) → 4 ≤ j → own_at 3 stats_logs (Place.Server j) ≡ []
+    past : (j : ℕ) → 4 ≤ j → own_at 3 stats_logs (ActPlace.Server j) ≡ []
     past zero le = absurd (omega (arith, le))
     past (suc zero) le = absurd (omega (arith, le))
     past (suc (suc zero)) le = absurd (omega (arith, le))

@@ -6,7 +6,7 @@ use Rattle.std.specs.List.{slice_get}
 use Rattle.clay_grid.specs.Shape.{chunk_count}
 use Rattle.store_map.specs.Limits.{size_of}
 use Rattle.store_core.specs.Act.{Act, DirectoryStep, ServerStep}
-use Rattle.store_core.specs.ActPlace.{Place}
+use Rattle.store_core.specs.ActPlace.{ActPlace}
 use Rattle.store_core.specs.Lists.{change_at}
 use Rattle.store_core.proofs.Places.{slice_get-change_at}
 use Rattle.thread_laws.specs.MadeSteps.{MadeStep, acts_at, is_at}
@@ -31,57 +31,57 @@ changed_get zero x (y ∷ xs) lt = refl
 changed_get (suc i) x (y ∷ xs) lt = changed_get i x xs (omega (arith, lt))
 
 -- an act at a server is at no other place, and at a place
-added_elsewhere : (place : Place) (m : MadeStep) → is_at place m ≡ false → (xs : List MadeStep) → xs ≡ xs ++ filter (is_at place) (m ∷ [])
+added_elsewhere : (place : ActPlace) (m : MadeStep) → is_at place m ≡ false → (xs : List MadeStep) → xs ≡ xs ++ filter (is_at place) (m ∷ [])
 added_elsewhere place m e xs = sym (ap (λ b. xs ++ cond {A = List MadeStep} b (m ∷ []) []) e ∙ append-nil xs)
 
-added_here : (place : Place) (m : MadeStep) → is_at place m ≡ true → (xs : List MadeStep) → xs ++ m ∷ [] ≡ xs ++ filter (is_at place) (m ∷ [])
+added_here : (place : ActPlace) (m : MadeStep) → is_at place m ≡ true → (xs : List MadeStep) → xs ++ m ∷ [] ≡ xs ++ filter (is_at place) (m ∷ [])
 added_here place m e xs = sym (ap (λ b. xs ++ cond {A = List MadeStep} b (m ∷ []) []) e)
 
 -- ---- at a server
 module _ (number server servers : ℕ) (seen : Logs) (now : List (ℕ × MadeStep)) (m : MadeStep) (step : ServerStep) (act : m.act ≡ Act.AtServer server step) (there : server < length seen.servers) (within : server < servers)
     (more : entries_of number now ≡ entries_of number (log_of seen server) ++ (number, m) ∷ []) (above : last_own servers number seen < m.moment) where
-  at_server : (place : Place) → is_at place m ≡ acts_at place (Act.AtServer server step)
+  at_server : (place : ActPlace) → is_at place m ≡ acts_at place (Act.AtServer server step)
   at_server place = ap (acts_at place) act
 
-  server_lists : (place : Place) → own_at number (with_log server now seen) place ≡ own_at number seen place ++ filter (is_at place) (m ∷ [])
-  server_lists Place.Directory = added_elsewhere Place.Directory m (at_server Place.Directory) (own_at number seen Place.Directory)
-  server_lists (Place.Server j) = by (cases_eq j server)
+  server_lists : (place : ActPlace) → own_at number (with_log server now seen) place ≡ own_at number seen place ++ filter (is_at place) (m ∷ [])
+  server_lists ActPlace.Directory = added_elsewhere ActPlace.Directory m (at_server ActPlace.Directory) (own_at number seen ActPlace.Directory)
+  server_lists (ActPlace.Server j) = by (cases_eq j server)
     where
-      by : (j ≡ server) ⊎ (j ≡ server → ⊥) → own_at number (with_log server now seen) (Place.Server j) ≡ own_at number seen (Place.Server j) ++ filter (is_at (Place.Server j)) (m ∷ [])
+      by : (j ≡ server) ⊎ (j ≡ server → ⊥) → own_at number (with_log server now seen) (ActPlace.Server j) ≡ own_at number seen (ActPlace.Server j) ++ filter (is_at (ActPlace.Server j)) (m ∷ [])
       by (inl same) =
-          subst (λ k. own_at number (with_log server now seen) (Place.Server k) ≡ own_at number seen (Place.Server k) ++ filter (is_at (Place.Server k)) (m ∷ [])) (sym same)
+          subst (λ k. own_at number (with_log server now seen) (ActPlace.Server k) ≡ own_at number seen (ActPlace.Server k) ++ filter (is_at (ActPlace.Server k)) (m ∷ [])) (sym same)
           (ap (λ o. steps_in (entries_of number (unwrap_or o []))) (changed_get server now seen.servers there)
           ∙ (ap steps_in more ∙ (server_more (entries_of number (log_of seen server)) (number, m)
-          ∙ added_here (Place.Server server) m (at_server (Place.Server server) ∙ eq-eqb server server refl) (own_at number seen (Place.Server server)))))
+          ∙ added_here (ActPlace.Server server) m (at_server (ActPlace.Server server) ∙ eq-eqb server server refl) (own_at number seen (ActPlace.Server server)))))
       by (inr differ) =
           ap (λ o. steps_in (entries_of number (unwrap_or o []))) (slice_get-change_at server j (λ _. now) seen.servers differ)
-          ∙ added_elsewhere (Place.Server j) m (at_server (Place.Server j) ∙ ne_eqb j server differ) (own_at number seen (Place.Server j))
+          ∙ added_elsewhere (ActPlace.Server j) m (at_server (ActPlace.Server j) ∙ ne_eqb j server differ) (own_at number seen (ActPlace.Server j))
 
   pub one_at_server : IsOneMore servers (own_at number seen) m (own_at number (with_log server now seen))
   one_at_server =
       record {
-        more = record { lists = server_lists; there = Place.Server server; at = at_server (Place.Server server) ∙ eq-eqb server server refl };
-        within = λ j e. subst (λ k. k < servers) (sym (eqb-true j server (sym (at_server (Place.Server j)) ∙ e))) within;
+        more = record { lists = server_lists; there = ActPlace.Server server; at = at_server (ActPlace.Server server) ∙ eq-eqb server server refl };
+        within = λ j e. subst (λ k. k < servers) (sym (eqb-true j server (sym (at_server (ActPlace.Server j)) ∙ e))) within;
         above = above;
       }
 
 -- ---- at the directory
 module _ (number servers : ℕ) (seen : Logs) (now : List (ℕ × Noted)) (entry : Noted) (step : DirectoryStep) (act : entry.made.act ≡ Act.AtDirectory step)
     (more : entries_of number now ≡ entries_of number seen.directory ++ (number, entry) ∷ []) (above : last_own servers number seen < entry.made.moment) where
-  at_directory : (place : Place) → is_at place entry.made ≡ acts_at place (Act.AtDirectory step)
+  at_directory : (place : ActPlace) → is_at place entry.made ≡ acts_at place (Act.AtDirectory step)
   at_directory place = ap (acts_at place) act
 
-  directory_lists : (place : Place) → own_at number (with_notes now seen) place ≡ own_at number seen place ++ filter (is_at place) (entry.made ∷ [])
-  directory_lists Place.Directory =
+  directory_lists : (place : ActPlace) → own_at number (with_notes now seen) place ≡ own_at number seen place ++ filter (is_at place) (entry.made ∷ [])
+  directory_lists ActPlace.Directory =
       ap made_in more ∙ (steps_more (λ (n : Noted). n.made) (entries_of number seen.directory) (number, entry)
-      ∙ added_here Place.Directory entry.made (at_directory Place.Directory) (own_at number seen Place.Directory))
-  directory_lists (Place.Server j) = added_elsewhere (Place.Server j) entry.made (at_directory (Place.Server j)) (own_at number seen (Place.Server j))
+      ∙ added_here ActPlace.Directory entry.made (at_directory ActPlace.Directory) (own_at number seen ActPlace.Directory))
+  directory_lists (ActPlace.Server j) = added_elsewhere (ActPlace.Server j) entry.made (at_directory (ActPlace.Server j)) (own_at number seen (ActPlace.Server j))
 
   pub one_at_directory : IsOneMore servers (own_at number seen) entry.made (own_at number (with_notes now seen))
   one_at_directory =
       record {
-        more = record { lists = directory_lists; there = Place.Directory; at = at_directory Place.Directory };
-        within = λ j e. absurd (true≢false (sym e ∙ at_directory (Place.Server j)));
+        more = record { lists = directory_lists; there = ActPlace.Directory; at = at_directory ActPlace.Directory };
+        within = λ j e. absurd (true≢false (sym e ∙ at_directory (ActPlace.Server j)));
         above = above;
       }
 

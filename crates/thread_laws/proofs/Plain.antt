@@ -4,7 +4,7 @@ use Rattle.clay_grid.specs.Shape.{chunk_count}
 use Rattle.store_map.specs.Limits.{size_of, tries_of}
 use Rattle.store_map.specs.declared.actor.Actor.TheVariants as actor
 use Rattle.store_core.specs.Act.{Act}
-use Rattle.store_core.specs.ActPlace.{Place}
+use Rattle.store_core.specs.ActPlace.{ActPlace}
 use Rattle.store_core.specs.Sweep.{Sweeper}
 use Rattle.store_core.specs.Work.{new_calling}
 use Rattle.thread_laws.specs.MadeSteps.{MadeStep, is_at, MomentsRise}
@@ -64,12 +64,12 @@ operating_goes_on script number seen line left operating =
     }
 
 -- ---- the beginning
-module _ {S : Type 0} (next : MadeStep → S → S) (May : MadeStep → S → Type 0) (first : S) (servers : ℕ) (at : Place → List MadeStep) (each : (place : Place) → at place ≡ []) where
+module _ {S : Type 0} (next : MadeStep → S → S) (May : MadeStep → S → Type 0) (first : S) (servers : ℕ) (at : ActPlace → List MadeStep) (each : (place : ActPlace) → at place ≡ []) where
   pub listed_first : IsListed next May first servers at first
   listed_first =
       let none : own_steps servers at ≡ [] = own_empty servers at each in
       record {
-        own = record { here = λ place. ap (filter (is_at place)) (each place) ∙ sym (each place); order = λ place. subst MomentsRise (sym (each place)) tt; past = λ j le. each (Place.Server j) };
+        own = record { here = λ place. ap (filter (is_at place)) (each place) ∙ sym (each place); order = λ place. subst MomentsRise (sym (each place)) tt; past = λ j le. each (ActPlace.Server j) };
         rise = subst MomentsRise (sym none) tt;
         come = subst (λ l. AllCome next May l first) (sym none) tt;
         leads = ap (λ l. after_all next l first) (sym none);
@@ -87,7 +87,7 @@ all_begin script at each =
             calling = new_calling n;
             listed = listed_first (calling_next script work) (IsNext script work) (new_calling n) n at each;
             stands = record { ended = refl; doing = record { between = record { told = refl; takes = refl }; none = refl } };
-            token = ap (λ l. tokens_after l (first_token who)) (each Place.Directory);
+            token = ap (λ l. tokens_after l (first_token who)) (each ActPlace.Directory);
             numbered = let none : 0 ≤ 0 = omega arith in none;
             heard = tt;
             bounded = from_none _ _ (begun_left script.geometry (size_of script) (tries_of script) work.jobs);

@@ -2,7 +2,7 @@
 use Rattle.std.proofs.Common.{◌≡◌, List, [], ◌∷◌, ◌++◌, map, filter, append-nil, refl, sym, ap, ◌∙◌}
 use Rattle.store_map.specs.declared.actor.Token.{Token}
 use Rattle.store_map.specs.declared.script.Script.{Script}
-use Rattle.store_core.specs.ActPlace.{Place}
+use Rattle.store_core.specs.ActPlace.{ActPlace}
 use Rattle.store_core.specs.Core.{Core, first_core}
 use Rattle.store_core.specs.Run.{Run}
 use Rattle.store_core.specs.Schedule.{run_tokens, run_core}
@@ -50,7 +50,7 @@ run_reaches script steps rest r =
     ∙ ap (λ (run : Run). run.core) (r.run [])
 
 -- and its directory the one of the steps there
-pub along_directory : (script : Script) (steps : List MadeStep) (core : Core) → (along script steps core).directory ≡ after_all directory_next (filter (is_at Place.Directory) steps) core.directory
+pub along_directory : (script : Script) (steps : List MadeStep) (core : Core) → (along script steps core).directory ≡ after_all directory_next (filter (is_at ActPlace.Directory) steps) core.directory
 along_directory script [] core = refl
 along_directory script (m ∷ steps) core =
     along_directory script steps (core_after script m core) ∙ directory_ends script m.number m.shortage m.answer m.moment steps m.actor m.act core.directory

@@ -2,7 +2,7 @@
 use Rattle.std.proofs.Common.{ℕ, zero, suc, refl}
 use Rattle.std.specs.List.{slice_get}
 use Rattle.store_map.specs.declared.actor.Actor.TheVariants as actor
-use Rattle.store_core.specs.ActPlace.{Place}
+use Rattle.store_core.specs.ActPlace.{ActPlace}
 use Rattle.store_core.specs.Core.{first_core}
 use Rattle.store_core.specs.Work.{client_work}
 use Rattle.thread_laws.specs.AtPlaces.{AllCome, server_next, ServerAnswers}
@@ -10,7 +10,7 @@ use Rattle.thread_laws.specs.Histories.{ComeIfThere, ComeOfActor}
 use Rattle.thread_laws.specs.ReadExample.{put_get, read_of}
 use Rattle.thread_laws.specs.ReadMerges.{read_at, ReadMerges}
 
-servers_go : (j : ℕ) → ComeIfThere (AllCome server_next ServerAnswers) (read_at (Place.Server j)) (slice_get (first_core put_get).servers j)
+servers_go : (j : ℕ) → ComeIfThere (AllCome server_next ServerAnswers) (read_at (ActPlace.Server j)) (slice_get (first_core put_get).servers j)
 servers_go zero = (refl, (refl, (refl, tt)))
 servers_go (suc zero) = (refl, (refl, (refl, tt)))
 servers_go (suc (suc zero)) = (refl, (refl, tt))

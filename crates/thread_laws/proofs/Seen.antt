@@ -1,6 +1,6 @@
 -- What an actor's turns have seen, beside histories that go on from it.
 use Rattle.std.proofs.Common.{◌≡◌, ℕ, zero, suc, ◌<◌, List, [], ◌∷◌, length, Option, None, Some, slice_get, unwrap_or, refl, sym, ap, ◌∙◌, arith}
-use Rattle.store_core.specs.ActPlace.{Place}
+use Rattle.store_core.specs.ActPlace.{ActPlace}
 use Rattle.thread_laws.specs.MadeSteps.{MadeStep}
 use Rattle.turn_lock.specs.History.{entries_of}
 use Rattle.thread_laws.specs.Entries.{steps_in}
@@ -17,9 +17,9 @@ none_there seen none j = by (slice_get seen.servers j) refl
     by None e = ap (λ (o : Option (List (ℕ × MadeStep))). unwrap_or o []) e
     by (Some log) e = ap (λ (o : Option (List (ℕ × MadeStep))). unwrap_or o []) e ∙ none.servers j log e
 
-none_own : (number : ℕ) (seen : Logs) → HasSeenNothing seen → (place : Place) → own_at number seen place ≡ []
-none_own number seen none Place.Directory = ap (λ (l : List (ℕ × Noted)). made_in (entries_of number l)) none.directory
-none_own number seen none (Place.Server j) = ap (λ (l : List (ℕ × MadeStep)). steps_in (entries_of number l)) (none_there seen none j)
+none_own : (number : ℕ) (seen : Logs) → HasSeenNothing seen → (place : ActPlace) → own_at number seen place ≡ []
+none_own number seen none ActPlace.Directory = ap (λ (l : List (ℕ × Noted)). made_in (entries_of number l)) none.directory
+none_own number seen none (ActPlace.Server j) = ap (λ (l : List (ℕ × MadeStep)). steps_in (entries_of number l)) (none_there seen none j)
 
 pub new_turns_begin : NewTurnsBegin
 new_turns_begin script number seen none = all_begin script (own_at number seen) (none_own number seen none)
@@ -36,5 +36,5 @@ same_there number (log ∷ logs) (own ∷ seen) wide all zero = all zero log own
 same_there number (log ∷ logs) (own ∷ seen) wide all (suc j) = same_there number logs seen (omega (arith, wide)) (λ k l o e f. all (suc k) l o e f) j
 
 pub histories_have_all : HistoriesHaveAll
-histories_have_all number seen logs has Place.Directory = ap made_in has.directory
-histories_have_all number seen logs has (Place.Server j) = ap steps_in (same_there number logs.servers seen.servers has.wide has.servers j)
+histories_have_all number seen logs has ActPlace.Directory = ap made_in has.directory
+histories_have_all number seen logs has (ActPlace.Server j) = ap steps_in (same_there number logs.servers seen.servers has.wide has.servers j)

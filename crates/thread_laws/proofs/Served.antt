@@ -4,7 +4,7 @@ use Rattle.std.proofs.lemmas.Option.{none-some, same_Some, slice_get-map}
 use Rattle.std.specs.List.{slice_get}
 use Rattle.store_map.specs.declared.script.Script.{Script}
 use Rattle.store_core.specs.Act.{Outcome}
-use Rattle.store_core.specs.ActPlace.{Place}
+use Rattle.store_core.specs.ActPlace.{ActPlace}
 use Rattle.store_core.specs.Core.{Core, first_core}
 use Rattle.store_core.specs.Directory.{Directory, Point}
 use Rattle.store_core.specs.History.{is_answered}
@@ -108,7 +108,7 @@ owed_are_served script lines h geometry valid twice go end w ends stands d serve
           ∙ runs_serve_at_pins script (map (λ (m : MadeStep). m.shortage) (in_order script h)) geometry valid (map token_of (in_order script h)) place i point known.calling found.ended there mine pinned is_calling is_ended
           (subst (λ (o : Outcome). is_answered o ≡ true) (sym found.is_outcome) answered);
       owed = λ place i number bytes is_outcome is_bytes.
-          let there : IsReply script (directory_after script (h.at Place.Directory)).points i number place bytes =
+          let there : IsReply script (directory_after script (h.at ActPlace.Directory)).points i number place bytes =
           owed_are_replies script lines h geometry valid twice go i number place bytes (owed i number place bytes is_outcome is_bytes) in
           (subst (λ (ps : List Point). IsReply script ps i number place bytes) (ap (λ (b : Directory). b.points) (sym ends.directory ∙ (stands.directory ∙ holds.directory))) there).reply;
     }

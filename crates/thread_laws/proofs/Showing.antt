@@ -15,7 +15,7 @@ use Rattle.store_core.specs.Step.{Shortage}
 use Rattle.store_core.specs.Core.{Core, first_core}
 use Rattle.store_core.specs.Schedule.{run_core}
 use Rattle.store_core.specs.Shown.{shown}
-use Rattle.store_core.specs.ActPlace.{Place}
+use Rattle.store_core.specs.ActPlace.{ActPlace}
 use Rattle.thread_laws.specs.MadeSteps.{MadeStep, is_by}
 use Rattle.thread_laws.specs.AtPlaces.{AllCome, after_all}
 use Rattle.thread_laws.specs.Lines.{lines_next, IsNextLine, operator_act, line_of, token_of}
@@ -38,7 +38,7 @@ same_list (x ∷ xs) (y ∷ ys) h =
     let tail : xs ≡ ys = same_list xs ys (λ j. h (suc j)) in
     λ i. head i ∷ tail i
 
-same_core : (script : Script) (core : Core) (at : Place → List MadeStep) (of : Actor → List MadeStep) (one other : Core) → EndAs script core at of one → EndAs script core at of other → one ≡ other
+same_core : (script : Script) (core : Core) (at : ActPlace → List MadeStep) (of : Actor → List MadeStep) (one other : Core) → EndAs script core at of one → EndAs script core at of other → one ≡ other
 same_core script core at of one other e f =
     let directory : one.directory ≡ other.directory = e.directory ∙ sym f.directory in
     let servers : one.servers ≡ other.servers = same_list one.servers other.servers (λ j. e.servers j ∙ sym (f.servers j)) in

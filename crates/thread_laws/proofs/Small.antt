@@ -6,7 +6,7 @@ use Rattle.store_map.specs.declared.actor.Actor.{Actor}
 use Rattle.store_map.specs.declared.actor.Actor.TheVariants as actor
 use Rattle.store_core.specs.Core.{first_core}
 use Rattle.store_core.specs.Work.{client_work}
-use Rattle.store_core.specs.ActPlace.{Place}
+use Rattle.store_core.specs.ActPlace.{ActPlace}
 use Rattle.thread_laws.specs.MadeSteps.{MadeStep, is_by, is_at, MomentsRise}
 use Rattle.thread_laws.specs.AtPlaces.{AllCome, server_next, ServerAnswers}
 use Rattle.thread_laws.specs.Histories.{ComeIfThere, ComeOfActor}
@@ -14,11 +14,11 @@ use Rattle.thread_laws.specs.StatsExample.{two_stats, first_stat, second_stat, t
 use Rattle.thread_laws.specs.ShortExample.{short_put, short_of, ShortMerges}
 
 -- ---- the first
-here : (place : Place) → filter (is_at place) (stats_at place) ≡ stats_at place
-here Place.Directory = refl
-here (Place.Server zero) = refl
-here (Place.Server (suc zero)) = refl
-here (Place.Server (suc (suc j))) = refl
+here : (place : ActPlace) → filter (is_at place) (stats_at place) ≡ stats_at place
+here ActPlace.Directory = refl
+here (ActPlace.Server zero) = refl
+here (ActPlace.Server (suc zero)) = refl
+here (ActPlace.Server (suc (suc j))) = refl
 
 own : (who : Actor) → filter (is_by who) (stats_of who) ≡ stats_of who
 own (actor.Client zero) = refl
@@ -44,37 +44,37 @@ none_here i = not_by (suc (suc i)) first_stat (second_stat ∷ []) (third_first 
 none_in_order : (i : ℕ) → filter (is_by (actor.Client (suc (suc i)))) (first_stat ∷ the_wipe ∷ second_stat ∷ []) ≡ []
 none_in_order i = not_by (suc (suc i)) first_stat (the_wipe ∷ second_stat ∷ []) (third_first i) (not_by (suc (suc i)) second_stat [] (third_second i) refl)
 
-both : (place : Place) (who : Actor) → filter (is_by who) (stats_at place) ≡ filter (is_at place) (stats_of who)
-both Place.Directory (actor.Client zero) = refl
-both Place.Directory (actor.Client (suc zero)) = refl
-both Place.Directory (actor.Client (suc (suc i))) = none_here i
-both Place.Directory (actor.Repairer i) = refl
-both Place.Directory actor.Sweeper = refl
-both Place.Directory actor.Operator = refl
-both (Place.Server zero) (actor.Client zero) = refl
-both (Place.Server zero) (actor.Client (suc zero)) = refl
-both (Place.Server zero) (actor.Client (suc (suc i))) = refl
-both (Place.Server zero) (actor.Repairer i) = refl
-both (Place.Server zero) actor.Sweeper = refl
-both (Place.Server zero) actor.Operator = refl
-both (Place.Server (suc zero)) (actor.Client zero) = refl
-both (Place.Server (suc zero)) (actor.Client (suc zero)) = refl
-both (Place.Server (suc zero)) (actor.Client (suc (suc i))) = refl
-both (Place.Server (suc zero)) (actor.Repairer i) = refl
-both (Place.Server (suc zero)) actor.Sweeper = refl
-both (Place.Server (suc zero)) actor.Operator = refl
-both (Place.Server (suc (suc j))) (actor.Client zero) = refl
-both (Place.Server (suc (suc j))) (actor.Client (suc zero)) = refl
-both (Place.Server (suc (suc j))) (actor.Client (suc (suc i))) = refl
-both (Place.Server (suc (suc j))) (actor.Repairer i) = refl
-both (Place.Server (suc (suc j))) actor.Sweeper = refl
-both (Place.Server (suc (suc j))) actor.Operator = sym (ap (λ b. cond {A = List MadeStep} b (the_wipe ∷ []) []) (ne_eqb (suc (suc j)) 1 (λ e. absurd (omega (arith, e)))))
+both : (place : ActPlace) (who : Actor) → filter (is_by who) (stats_at place) ≡ filter (is_at place) (stats_of who)
+both ActPlace.Directory (actor.Client zero) = refl
+both ActPlace.Directory (actor.Client (suc zero)) = refl
+both ActPlace.Directory (actor.Client (suc (suc i))) = none_here i
+both ActPlace.Directory (actor.Repairer i) = refl
+both ActPlace.Directory actor.Sweeper = refl
+both ActPlace.Directory actor.Operator = refl
+both (ActPlace.Server zero) (actor.Client zero) = refl
+both (ActPlace.Server zero) (actor.Client (suc zero)) = refl
+both (ActPlace.Server zero) (actor.Client (suc (suc i))) = refl
+both (ActPlace.Server zero) (actor.Repairer i) = refl
+both (ActPlace.Server zero) actor.Sweeper = refl
+both (ActPlace.Server zero) actor.Operator = refl
+both (ActPlace.Server (suc zero)) (actor.Client zero) = refl
+both (ActPlace.Server (suc zero)) (actor.Client (suc zero)) = refl
+both (ActPlace.Server (suc zero)) (actor.Client (suc (suc i))) = refl
+both (ActPlace.Server (suc zero)) (actor.Repairer i) = refl
+both (ActPlace.Server (suc zero)) actor.Sweeper = refl
+both (ActPlace.Server (suc zero)) actor.Operator = refl
+both (ActPlace.Server (suc (suc j))) (actor.Client zero) = refl
+both (ActPlace.Server (suc (suc j))) (actor.Client (suc zero)) = refl
+both (ActPlace.Server (suc (suc j))) (actor.Client (suc (suc i))) = refl
+both (ActPlace.Server (suc (suc j))) (actor.Repairer i) = refl
+both (ActPlace.Server (suc (suc j))) actor.Sweeper = refl
+both (ActPlace.Server (suc (suc j))) actor.Operator = sym (ap (λ b. cond {A = List MadeStep} b (the_wipe ∷ []) []) (ne_eqb (suc (suc j)) 1 (λ e. absurd (omega (arith, e)))))
 
-rise_at : (place : Place) → MomentsRise (stats_at place)
-rise_at Place.Directory = (All-cons (λ (later : MadeStep). 1 < later.moment) second_stat [] (omega arith) (All-nil (λ (later : MadeStep). 1 < later.moment)), (All-nil (λ (later : MadeStep). 2 < later.moment), tt))
-rise_at (Place.Server zero) = tt
-rise_at (Place.Server (suc zero)) = (All-nil (λ (later : MadeStep). 1 < later.moment), tt)
-rise_at (Place.Server (suc (suc j))) = tt
+rise_at : (place : ActPlace) → MomentsRise (stats_at place)
+rise_at ActPlace.Directory = (All-cons (λ (later : MadeStep). 1 < later.moment) second_stat [] (omega arith) (All-nil (λ (later : MadeStep). 1 < later.moment)), (All-nil (λ (later : MadeStep). 2 < later.moment), tt))
+rise_at (ActPlace.Server zero) = tt
+rise_at (ActPlace.Server (suc zero)) = (All-nil (λ (later : MadeStep). 1 < later.moment), tt)
+rise_at (ActPlace.Server (suc (suc j))) = tt
 
 rise_of : (who : Actor) → MomentsRise (stats_of who)
 rise_of (actor.Client zero) = (All-nil (λ (later : MadeStep). 1 < later.moment), tt)
@@ -84,7 +84,7 @@ rise_of (actor.Repairer i) = tt
 rise_of actor.Sweeper = tt
 rise_of actor.Operator = (All-nil (λ (later : MadeStep). 1 < later.moment), tt)
 
-servers_go : (j : ℕ) → ComeIfThere (AllCome server_next ServerAnswers) (stats_at (Place.Server j)) (slice_get (first_core two_stats).servers j)
+servers_go : (j : ℕ) → ComeIfThere (AllCome server_next ServerAnswers) (stats_at (ActPlace.Server j)) (slice_get (first_core two_stats).servers j)
 servers_go zero = tt
 servers_go (suc zero) = (refl, tt)
 servers_go (suc (suc zero)) = tt

@@ -21,7 +21,7 @@ use Rattle.store_core.specs.CallStep.{job_step, step_if, step_of}
 use Rattle.store_core.specs.Core.{Core}
 use Rattle.store_core.specs.Run.{Run, after_step, with_places, places_in, operator_step, after_client, after_repairer}
 use Rattle.store_core.specs.Schedule.{step_core}
-use Rattle.store_core.specs.ActPlace.{Place}
+use Rattle.store_core.specs.ActPlace.{ActPlace}
 use Rattle.thread_laws.specs.MadeSteps.{MadeStep, is_by, is_at}
 use Rattle.thread_laws.specs.AtPlaces.{AllCome, directory_next, DirectoryAnswers, server_next, ServerAnswers}
 use Rattle.thread_laws.specs.ByActors.{job_if, told_now, called_next, calling_next, IsAtAPlace, IsNextOf, sweeper_next, IsNextSweep, HasNoCall}
@@ -75,8 +75,8 @@ made_by who number shortage answer moment act = record { actor = who; number = n
 -- ---- places
 module _ (who : Actor) (number : ℕ) (shortage : Shortage) (answer : Told) (moment : ℕ) where
   pub places_answer : (act : Act) (rest : List MadeStep) (places : Places) → IsAtAPlace act
-      → AllCome directory_next DirectoryAnswers (filter (is_at Place.Directory) (made_by who number shortage answer moment act ∷ rest)) places.directory
-      → ((j : ℕ) → ComeIfThere (AllCome server_next ServerAnswers) (filter (is_at (Place.Server j)) (made_by who number shortage answer moment act ∷ rest)) (slice_get places.servers j))
+      → AllCome directory_next DirectoryAnswers (filter (is_at ActPlace.Directory) (made_by who number shortage answer moment act ∷ rest)) places.directory
+      → ((j : ℕ) → ComeIfThere (AllCome server_next ServerAnswers) (filter (is_at (ActPlace.Server j)) (made_by who number shortage answer moment act ∷ rest)) (slice_get places.servers j))
       → at_places shortage.step who number act places ≡ (places_after (made_by who number shortage answer moment act) places, answer)
   places_answer (Act.AtDirectory step) rest places ok d s = ap (λ t. (places_after (made_by who number shortage answer moment (Act.AtDirectory step)) places, t)) d.0
   places_answer (Act.AtServer server step) rest places ok d s =
@@ -87,7 +87,7 @@ module _ (who : Actor) (number : ℕ) (shortage : Shortage) (answer : Told) (mom
       m = made_by who number shortage answer moment (Act.AtServer server step)
 
       later : List MadeStep
-      later = filter (is_at (Place.Server server)) rest
+      later = filter (is_at (ActPlace.Server server)) rest
 
       by : (found : Option Server) → slice_get places.servers server ≡ found → ComeIfThere (AllCome server_next ServerAnswers) (m ∷ later) found
           → at_server_there shortage.step server step places found ≡ (places_after m places, answer)

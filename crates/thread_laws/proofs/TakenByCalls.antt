@@ -15,7 +15,7 @@ use Rattle.store_map.specs.declared.actor.Token.TheVariants as token
 use Rattle.store_core.specs.Lists.{is_among}
 use Rattle.store_core.specs.Told.{Told}
 use Rattle.store_core.specs.Act.{Act, DirectoryStep, ServerStep, server_takes_memory}
-use Rattle.store_core.specs.ActPlace.{Place}
+use Rattle.store_core.specs.ActPlace.{ActPlace}
 use Rattle.store_core.specs.Server.{Server, hold, new_server, gives, found_at, install, made_at_server, server_unless_short}
 use Rattle.store_core.specs.Sweep.{Sweeper, next_sweep}
 use Rattle.store_core.specs.Work.{new_calling, client_work, repairer_work}
@@ -131,10 +131,10 @@ lines_fetch test (m ∷ steps) (line ∷ lines) come = none_fetched test m steps
 
 -- ---- the law
 module _ (script : Script) (lines : List Token) (h : Histories) (twice : StandTwice h) (go : GoOn script lines (first_core script) h.at h.of) (server : ℕ) (lt : server < chunk_count script.geometry) where
-  nothing : (who : Actor) → sum_by fetched (filter (is_at (Place.Server server)) (h.of who)) ≡ 0 → taken_at server (h.of who) ≡ 0
+  nothing : (who : Actor) → sum_by fetched (filter (is_at (ActPlace.Server server)) (h.of who)) ≡ 0 → taken_at server (h.of who) ≡ 0
   nothing who none =
-      let same : filter (is_by who) (h.at (Place.Server server)) ≡ filter (is_at (Place.Server server)) (h.of who) = twice.both (Place.Server server) who in
-      ap (sum_by given) (sym same) ∙ parts_fetched (is_by who) (h.at (Place.Server server)) new_server (server_comes script h server twice lines go lt) ∙ ap (sum_by fetched) same ∙ none
+      let same : filter (is_by who) (h.at (ActPlace.Server server)) ≡ filter (is_at (ActPlace.Server server)) (h.of who) = twice.both (ActPlace.Server server) who in
+      ap (sum_by given) (sym same) ∙ parts_fetched (is_by who) (h.at (ActPlace.Server server)) new_server (server_comes script h server twice lines go lt) ∙ ap (sum_by fetched) same ∙ none
 
   client : (i : ℕ) → i < length script.clients → min (taken_by_calls server (client_after script h i)) (2 ^ 64 - 1) ≡ min (taken_at server (h.of (actor.Client i))) (2 ^ 64 - 1)
   client i low =
@@ -146,7 +146,7 @@ module _ (script : Script) (lines : List Token) (h : Histories) (twice : StandTw
       actor_counted script server (slice_get (repairer_work script) i) (h.of (actor.Repairer i)) lt
       (subst (λ found. ComeOfActor script (h.of (actor.Repairer i)) (slice_get (repairer_work script) i) found) (slice_get-replicate (length script.repairers) i (new_calling (chunk_count script.geometry)) low) (go.repairers i))
 
-  counted : (after_all server_next (h.at (Place.Server server)) new_server).taken
+  counted : (after_all server_next (h.at (ActPlace.Server server)) new_server).taken
       ≡ min (sum_by (λ i. taken_by_calls server (client_after script h i)) (range_with_len 0 (length script.clients)) + sum_by (λ i. taken_by_calls server (repairer_after script h i)) (range_with_len 0 (length script.repairers))) (2 ^ 64 - 1)
   counted =
       let clients : ℕ = sum_by (λ i. taken_at server (h.of (actor.Client i))) (range_with_len 0 (length script.clients)) in
@@ -155,10 +155,10 @@ module _ (script : Script) (lines : List Token) (h : Histories) (twice : StandTw
       let repairer_calls : ℕ = sum_by (λ i. taken_by_calls server (repairer_after script h i)) (range_with_len 0 (length script.repairers)) in
       let sweeper : ℕ = taken_at server (h.of actor.Sweeper) in
       let operator : ℕ = taken_at server (h.of actor.Operator) in
-      let taken : ℕ = (after_all server_next (h.at (Place.Server server)) new_server).taken in
+      let taken : ℕ = (after_all server_next (h.at (ActPlace.Server server)) new_server).taken in
       let all : taken ≡ min (clients + (repairers + (sweeper + operator))) (2 ^ 64 - 1) = servers_count script lines h twice go server lt in
-      let no_sweeper : sweeper ≡ 0 = nothing actor.Sweeper (sweeps_fetch script (is_at (Place.Server server)) (h.of actor.Sweeper) (first_core script).sweeper go.sweeper) in
-      let no_operator : operator ≡ 0 = nothing actor.Operator (lines_fetch (is_at (Place.Server server)) (h.of actor.Operator) lines go.operator) in
+      let no_sweeper : sweeper ≡ 0 = nothing actor.Sweeper (sweeps_fetch script (is_at (ActPlace.Server server)) (h.of actor.Sweeper) (first_core script).sweeper go.sweeper) in
+      let no_operator : operator ≡ 0 = nothing actor.Operator (lines_fetch (is_at (ActPlace.Server server)) (h.of actor.Operator) lines go.operator) in
       let one : min client_calls (2 ^ 64 - 1) ≡ min clients (2 ^ 64 - 1) = min_sums (λ i. taken_by_calls server (client_after script h i)) (λ i. taken_at server (h.of (actor.Client i))) 0 (length script.clients) (λ i low high. client i (omega (arith, high))) in
       let other : min repairer_calls (2 ^ 64 - 1) ≡ min repairers (2 ^ 64 - 1) = min_sums (λ i. taken_by_calls server (repairer_after script h i)) (λ i. taken_at server (h.of (actor.Repairer i))) 0 (length script.repairers) (λ i low high. repairer i (omega (arith, high))) in
       omega (arith, all, no_sweeper, no_operator, one, other)

@@ -11,7 +11,7 @@ use Rattle.clay_grid.specs.Shape.{chunk_count}
 use Rattle.store_map.specs.declared.script.Script.{Script}
 use Rattle.store_map.specs.declared.actor.Actor.TheVariants as actor
 use Rattle.store_map.specs.declared.actor.Token.{Token}
-use Rattle.store_core.specs.ActPlace.{Place}
+use Rattle.store_core.specs.ActPlace.{ActPlace}
 use Rattle.store_core.specs.Server.{new_server}
 use Rattle.store_core.specs.Core.{first_core}
 use Rattle.thread_laws.specs.MadeSteps.{MadeStep, is_at}
@@ -62,7 +62,7 @@ group_sums test of start (suc count) =
 module _ (script : Script) (h : Histories) (server : ℕ) where
   all_sums : taken_at server (actor_by_actor script h) ≡ taken_by_all script h server
   all_sums =
-      let test : MadeStep → Bool = is_at (Place.Server server) in
+      let test : MadeStep → Bool = is_at (ActPlace.Server server) in
       let clients : List MadeStep = flat_map (λ i. h.of (actor.Client i)) (range_with_len 0 (length script.clients)) in
       let repairers : List MadeStep = flat_map (λ i. h.of (actor.Repairer i)) (range_with_len 0 (length script.repairers)) in
       part_sums test clients (repairers ++ (h.of actor.Sweeper ++ h.of actor.Operator))
@@ -71,21 +71,21 @@ module _ (script : Script) (h : Histories) (server : ℕ) where
       others : taken_at server (flat_map (λ i. h.of (actor.Repairer i)) (range_with_len 0 (length script.repairers)) ++ (h.of actor.Sweeper ++ h.of actor.Operator))
           ≡ sum_by (λ i. taken_at server (h.of (actor.Repairer i))) (range_with_len 0 (length script.repairers)) + (taken_at server (h.of actor.Sweeper) + taken_at server (h.of actor.Operator))
       others =
-          part_sums (is_at (Place.Server server)) (flat_map (λ i. h.of (actor.Repairer i)) (range_with_len 0 (length script.repairers))) (h.of actor.Sweeper ++ h.of actor.Operator)
-          ∙ (λ j. group_sums (is_at (Place.Server server)) (λ i. h.of (actor.Repairer i)) 0 (length script.repairers) j + part_sums (is_at (Place.Server server)) (h.of actor.Sweeper) (h.of actor.Operator) j)
+          part_sums (is_at (ActPlace.Server server)) (flat_map (λ i. h.of (actor.Repairer i)) (range_with_len 0 (length script.repairers))) (h.of actor.Sweeper ++ h.of actor.Operator)
+          ∙ (λ j. group_sums (is_at (ActPlace.Server server)) (λ i. h.of (actor.Repairer i)) 0 (length script.repairers) j + part_sums (is_at (ActPlace.Server server)) (h.of actor.Sweeper) (h.of actor.Operator) j)
 
   module _ (twice : StandTwice h) (lines : List Token) (go : GoOn script lines (first_core script) h.at h.of) where
-    pub place_sums : sum_by given (h.at (Place.Server server)) ≡ taken_by_all script h server
+    pub place_sums : sum_by given (h.at (ActPlace.Server server)) ≡ taken_by_all script h server
     place_sums =
-        ap (sum_by given) (sym (place_in_order h (in_order script h) twice (sorted script h twice lines go) (Place.Server server)) ∙ filter_by_moment (is_at (Place.Server server)) (actor_by_actor script h))
-        ∙ sum_by_moment (filter (is_at (Place.Server server)) (actor_by_actor script h)) ∙ all_sums
+        ap (sum_by given) (sym (place_in_order h (in_order script h) twice (sorted script h twice lines go) (ActPlace.Server server)) ∙ filter_by_moment (is_at (ActPlace.Server server)) (actor_by_actor script h))
+        ∙ sum_by_moment (filter (is_at (ActPlace.Server server)) (actor_by_actor script h)) ∙ all_sums
 
-    pub server_comes : server < chunk_count script.geometry → AllCome server_next ServerAnswers (h.at (Place.Server server)) new_server
+    pub server_comes : server < chunk_count script.geometry → AllCome server_next ServerAnswers (h.at (ActPlace.Server server)) new_server
     server_comes lt =
-        subst (λ found. ComeIfThere (AllCome server_next ServerAnswers) (h.at (Place.Server server)) found) (slice_get-replicate (chunk_count script.geometry) server new_server lt) (go.servers server)
+        subst (λ found. ComeIfThere (AllCome server_next ServerAnswers) (h.at (ActPlace.Server server)) found) (slice_get-replicate (chunk_count script.geometry) server new_server lt) (go.servers server)
 
 -- the law
 pub servers_count : ServersCountTakes
 servers_count script lines h twice go server lt =
-    list_counted (h.at (Place.Server server)) new_server 0 (server_comes script h server twice lines go lt) (omega arith)
+    list_counted (h.at (ActPlace.Server server)) new_server 0 (server_comes script h server twice lines go lt) (omega arith)
     ∙ ap (λ n. min n (2 ^ 64 - 1)) (omega arith ∙ place_sums script h server twice lines go)

@@ -1,7 +1,7 @@
 -- What the directory behind a lock stands for: the steps of its history.
 use Rattle.std.specs.Prelude.{◌≡◌, ℕ, ◌<◌, true, List, [], ◌∷◌, ◌++◌, filter, All, IfSome}
 use Rattle.store_map.specs.declared.actor.Actor.{Actor}
-use Rattle.store_core.specs.ActPlace.{Place}
+use Rattle.store_core.specs.ActPlace.{ActPlace}
 use Rattle.store_core.specs.Agreement.{Agrees}
 use Rattle.store_core.specs.Directory.{new_directory}
 use Rattle.store_core.specs.History.{call_of}
@@ -19,7 +19,7 @@ use Rattle.thread_laws.specs.Noted.{Noted, made_in, stamps_in, token_by, token_i
 pub record StandsAtDirectory (of : Counts) (max : ℕ) (d : Sealed) (log : List (ℕ × Noted)) : Type 0 where
   pub ends : d.core ≡ after_all directory_next (made_in log) (new_directory d.book.geometry max)
   pub answers : AllCome directory_next DirectoryAnswers (made_in log) (new_directory d.book.geometry max)
-  pub here : All (λ m. is_at Place.Directory m ≡ true) (made_in log)
+  pub here : All (λ m. is_at ActPlace.Directory m ≡ true) (made_in log)
   pub rise : MomentsRise (made_in log)
   pub turns : All (λ (entry : ℕ × Noted). IsTurnOf of entry.0 entry.1.made.actor) log
   pub stamps : d.stamps ≡ stamps_in log
@@ -29,7 +29,7 @@ pub record StandsAtDirectory (of : Counts) (max : ℕ) (d : Sealed) (log : List 
 -- a step that leads to another directory of the same book, with the answer that the directory gives and the stamps that it drew, under the number of its actor and after the moment of the history's last;
 -- afterwards the directory agrees with the ticket of an actor that has calls, and has the bytes of the map
 pub record IsAddedAtDirectory (of : Counts) (d now : Sealed) (log : List (ℕ × Noted)) (entry : ℕ × Noted) : Type 0 where
-  pub here : is_at Place.Directory entry.1.made ≡ true
+  pub here : is_at ActPlace.Directory entry.1.made ≡ true
   pub answers : DirectoryAnswers entry.1.made d.core
   pub above : last_of (made_in log) < entry.1.made.moment
   pub turn : IsTurnOf of entry.0 entry.1.made.actor

@@ -2,7 +2,7 @@
 use Rattle.std.specs.Prelude.{◌≡◌, ℕ, List, []}
 use Rattle.store_map.specs.declared.actor.Actor.{Actor}
 use Rattle.store_map.specs.declared.script.Script.{Script}
-use Rattle.store_core.specs.ActPlace.{Place}
+use Rattle.store_core.specs.ActPlace.{ActPlace}
 use Rattle.store_core.specs.Directory.{new_directory}
 use Rattle.store_core.specs.Server.{new_server}
 use Rattle.store_core.specs.Sweep.{Sweeper}
@@ -26,10 +26,10 @@ abbrev pub AllPlacesBegin : Type 0
 AllPlacesBegin = (of : Counts) → PlacesBegin of
 
 -- before its first step every actor is as it should be
-pub record ActorsBegin (script : Script) (at : Place → List MadeStep) : Type 0 where
+pub record ActorsBegin (script : Script) (at : ActPlace → List MadeStep) : Type 0 where
   pub acting : (who : Actor) (work : Work) → IsCalling script who work at (new_actor (first_token who))
   pub sweeping : IsSweeping script at Sweeper.Idle
   pub operating : IsOperating script at (lines_of script)
 
 abbrev pub AllBegin : Type 0
-AllBegin = (script : Script) (at : Place → List MadeStep) → ((place : Place) → at place ≡ []) → ActorsBegin script at
+AllBegin = (script : Script) (at : ActPlace → List MadeStep) → ((place : ActPlace) → at place ≡ []) → ActorsBegin script at

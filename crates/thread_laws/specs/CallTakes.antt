@@ -5,7 +5,7 @@ use Rattle.clay_grid.specs.Shape.{chunk_count}
 use Rattle.store_map.specs.declared.script.Script.{Script}
 use Rattle.store_map.specs.declared.actor.Actor.TheVariants as actor
 use Rattle.store_map.specs.declared.actor.Token.{Token}
-use Rattle.store_core.specs.ActPlace.{Place}
+use Rattle.store_core.specs.ActPlace.{ActPlace}
 use Rattle.store_core.specs.Server.{new_server}
 use Rattle.store_core.specs.Work.{Ended, Calling, new_calling, client_work, repairer_work}
 use Rattle.store_core.specs.Core.{first_core}
@@ -29,7 +29,7 @@ abbrev pub CallsCountTakes : Type 0
 CallsCountTakes =
     (script : Script) (lines : List Token) (h : Histories) → StandTwice h → GoOn script lines (first_core script) h.at h.of →
     (server : ℕ) → server < chunk_count script.geometry →
-    (after_all server_next (h.at (Place.Server server)) new_server).taken
+    (after_all server_next (h.at (ActPlace.Server server)) new_server).taken
     ≡ min
     (sum_by (λ i. taken_by_calls server (client_after script h i)) (range_with_len 0 (length script.clients))
     + sum_by (λ i. taken_by_calls server (repairer_after script h i)) (range_with_len 0 (length script.repairers)))

@@ -4,7 +4,7 @@ use Rattle.clay_grid.specs.Shape.{chunk_count}
 use Rattle.store_map.specs.declared.actor.Actor.{Actor}
 use Rattle.store_map.specs.declared.actor.Token.{Token}
 use Rattle.store_map.specs.declared.script.Script.{Script}
-use Rattle.store_core.specs.ActPlace.{Place}
+use Rattle.store_core.specs.ActPlace.{ActPlace}
 use Rattle.store_core.specs.Sweep.{Sweeper}
 use Rattle.store_core.specs.Work.{Work, Calling, new_calling}
 use Rattle.thread_laws.specs.MadeSteps.{MadeStep}
@@ -24,19 +24,19 @@ HeardLast (DoingOf.Between token) = ⊤
 HeardLast (DoingOf.InCall call steps) = call.coding ≡ false
 
 -- a client or a repairer with this work: its list leads to a calling that it stands for, and to its ticket; its calls are numbered, and it makes no more steps than they may
-pub record IsCalling (script : Script) (who : Actor) (work : Work) (at : Place → List MadeStep) (a : ActorOf) : Type 0 where
+pub record IsCalling (script : Script) (who : Actor) (work : Work) (at : ActPlace → List MadeStep) (a : ActorOf) : Type 0 where
   pub calling : Calling
   pub listed : IsListed (calling_next script work) (IsNext script work) (new_calling (chunk_count script.geometry)) (chunk_count script.geometry) at calling
   pub stands : ActorStands script work.jobs calling a
-  pub token : tokens_after (at Place.Directory) (first_token who) ≡ token_of a.doing
+  pub token : tokens_after (at ActPlace.Directory) (first_token who) ≡ token_of a.doing
   pub numbered : AreNumbered a.ended a.doing
   pub heard : HeardLast a.doing
   pub bounded : IsBounded script work calling
 
 -- the sweeper
-abbrev pub IsSweeping : Script → (Place → List MadeStep) → Sweeper → Type 0
+abbrev pub IsSweeping : Script → (ActPlace → List MadeStep) → Sweeper → Type 0
 IsSweeping script at sweeper = IsListed (sweeper_next script) (IsNextSweep script) Sweeper.Idle (chunk_count script.geometry) at sweeper
 
 -- the operator, with the lines that it has left
-abbrev pub IsOperating : Script → (Place → List MadeStep) → List Token → Type 0
+abbrev pub IsOperating : Script → (ActPlace → List MadeStep) → List Token → Type 0
 IsOperating script at left = IsListed lines_next IsNextLine (lines_of script) (chunk_count script.geometry) at left

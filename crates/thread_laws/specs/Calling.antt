@@ -3,7 +3,7 @@ use Rattle.std.specs.Prelude.{◌≡◌, ℕ, ◌+◌, ◌<◌, List, length}
 use Rattle.store_map.specs.declared.actor.Actor.{Actor}
 use Rattle.store_map.specs.declared.actor.Actor.TheVariants as actor
 use Rattle.store_map.specs.declared.script.Script.{Script}
-use Rattle.store_core.specs.ActPlace.{Place}
+use Rattle.store_core.specs.ActPlace.{ActPlace}
 use Rattle.store_core.specs.Tokens.{actor_of}
 use Rattle.store_core.specs.Work.{Work}
 use Rattle.thread_laws.specs.MadeSteps.{MadeStep}
@@ -16,15 +16,15 @@ use Rattle.thread_laws.specs.Callers.{IsCalling}
 use Rattle.thread_laws.specs.Stepped.{IsReady}
 
 -- the ticket is its actor's, and the one that the actor's own steps lead to; the call's number is that of the calls that have ended
-pub record KnowsItself (who : Actor) (at : Place → List MadeStep) (a : ActorOf) (c : CallOf) : Type 0 where
+pub record KnowsItself (who : Actor) (at : ActPlace → List MadeStep) (a : ActorOf) (c : CallOf) : Type 0 where
   pub whose : actor_of c.token ≡ who
-  pub token : tokens_after (at Place.Directory) (first_token (actor_of c.token)) ≡ c.token
+  pub token : tokens_after (at ActPlace.Directory) (first_token (actor_of c.token)) ≡ c.token
   pub number : c.number ≡ length a.ended
   pub used : IsUsedBelow (length a.ended + 1) c.token
 
 abbrev pub CallsKnowThemselves : Type 0
 CallsKnowThemselves =
-    (script : Script) (who : Actor) (work : Work) (at : Place → List MadeStep) (a : ActorOf) (c : CallOf) → IsCalling script who work at a →
+    (script : Script) (who : Actor) (work : Work) (at : ActPlace → List MadeStep) (a : ActorOf) (c : CallOf) → IsCalling script who work at a →
     IsReady script who work a c → KnowsItself who at a c
 
 -- clients, repairers, the sweeper, the operator

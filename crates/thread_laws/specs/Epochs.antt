@@ -2,7 +2,7 @@
 use Rattle.std.specs.Prelude.{ℕ, ◌≤◌, List, Some}
 use Rattle.store_map.specs.declared.script.Script.{Script}
 use Rattle.hist_rules.specs.Counts.{wipes}
-use Rattle.store_core.specs.ActPlace.{Place}
+use Rattle.store_core.specs.ActPlace.{ActPlace}
 use Rattle.store_core.specs.Server.{Server}
 use Rattle.thread_laws.specs.MadeSteps.{MadeStep}
 use Rattle.thread_laws.specs.AtServer.{StandsAtServer}
@@ -14,4 +14,4 @@ use Rattle.thread_laws.specs.Operated.{IsOperated}
 abbrev pub EpochsAreWipes : Type 0
 EpochsAreWipes =
     (of : Counts) (script : Script) (server : ℕ) (s : Server) (log : List (ℕ × MadeStep)) → StandsAtServer of server s log →
-    IsOperated (Some script) (Place.Server server) (steps_in log) → s.epoch ≤ wipes script server
+    IsOperated (Some script) (ActPlace.Server server) (steps_in log) → s.epoch ≤ wipes script server

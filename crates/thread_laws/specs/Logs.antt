@@ -2,7 +2,7 @@
 use Rattle.std.specs.Prelude.{◌≡◌, ℕ, List, [], filter, length, unwrap_or}
 use Rattle.std.specs.List.{slice_get}
 use Rattle.store_map.specs.declared.script.Script.{Script}
-use Rattle.store_core.specs.ActPlace.{Place}
+use Rattle.store_core.specs.ActPlace.{ActPlace}
 use Rattle.thread_laws.specs.MadeSteps.{MadeStep, is_by}
 use Rattle.thread_laws.specs.Histories.{Histories}
 use Rattle.thread_laws.specs.OwnSteps.{own_steps}
@@ -21,18 +21,18 @@ abbrev pub log_of : Logs → ℕ → List (ℕ × MadeStep)
 log_of logs j = unwrap_or (slice_get logs.servers j) []
 
 -- the steps at each place
-abbrev pub steps_at : Logs → Place → List MadeStep
-steps_at logs Place.Directory = made_in logs.directory
-steps_at logs (Place.Server j) = steps_in (log_of logs j)
+abbrev pub steps_at : Logs → ActPlace → List MadeStep
+steps_at logs ActPlace.Directory = made_in logs.directory
+steps_at logs (ActPlace.Server j) = steps_in (log_of logs j)
 
 -- those under a number
-abbrev pub own_at : ℕ → Logs → Place → List MadeStep
-own_at number logs Place.Directory = made_in (entries_of number logs.directory)
-own_at number logs (Place.Server j) = steps_in (entries_of number (log_of logs j))
+abbrev pub own_at : ℕ → Logs → ActPlace → List MadeStep
+own_at number logs ActPlace.Directory = made_in (entries_of number logs.directory)
+own_at number logs (ActPlace.Server j) = steps_in (entries_of number (log_of logs j))
 
 -- a turn of this number has seen all its entries
 abbrev pub HasSeenOwn : ℕ → Logs → Logs → Type 0
-HasSeenOwn number seen logs = (place : Place) → own_at number logs place ≡ own_at number seen place
+HasSeenOwn number seen logs = (place : ActPlace) → own_at number logs place ≡ own_at number seen place
 
 -- how many clients and repairers a script has
 abbrev pub counts_of : Script → Counts

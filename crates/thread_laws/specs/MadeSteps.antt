@@ -3,7 +3,7 @@ use Rattle.std.specs.Prelude.{ℕ, ◌≤◌, ◌<◌, Bool, true, false, nat_eq
 use Rattle.store_map.specs.declared.actor.Actor.{Actor}
 use Rattle.store_core.specs.Told.{Told}
 use Rattle.store_core.specs.Act.{Act}
-use Rattle.store_core.specs.ActPlace.{Place}
+use Rattle.store_core.specs.ActPlace.{ActPlace}
 use Rattle.store_core.specs.Lookups.{same_actor}
 use Rattle.store_core.specs.Step.{Shortage}
 
@@ -17,16 +17,16 @@ pub record MadeStep : Type 0 where
   pub moment : ℕ
 
 -- whether an act is done at this place
-abbrev pub acts_at : Place → Act → Bool
-acts_at Place.Directory (Act.AtDirectory step) = true
-acts_at (Place.Server server) (Act.AtServer other step) = nat_eq server other
+abbrev pub acts_at : ActPlace → Act → Bool
+acts_at ActPlace.Directory (Act.AtDirectory step) = true
+acts_at (ActPlace.Server server) (Act.AtServer other step) = nat_eq server other
 acts_at _ _ = false
 
 -- the steps of an actor, and those at a place
 abbrev pub is_by : Actor → MadeStep → Bool
 is_by who m = same_actor who m.actor
 
-abbrev pub is_at : Place → MadeStep → Bool
+abbrev pub is_at : ActPlace → MadeStep → Bool
 is_at place m = acts_at place m.act
 
 -- moments rise strictly along the list

@@ -4,7 +4,7 @@ use Rattle.std.specs.List.{slice_get}
 use Rattle.clay_grid.specs.Shape.{Shape, chunk_count}
 use Rattle.store_map.specs.Limits.{size_of, tries_of}
 use Rattle.store_map.specs.declared.script.Script.{Script}
-use Rattle.store_core.specs.ActPlace.{Place}
+use Rattle.store_core.specs.ActPlace.{ActPlace}
 use Rattle.store_core.specs.Bounds.{step_bound}
 use Rattle.store_core.specs.NextAct.{Job}
 use Rattle.store_core.specs.Told.{Told}
@@ -26,7 +26,7 @@ abbrev pub left_of : Script → Work → Calling → ℕ
 left_of script work calling = left_ahead script.geometry (size_of script) (tries_of script) (drop (length calling.ended) work.jobs) calling.told
 
 -- of one with these own steps at each place
-abbrev pub left_at : Script → Work → (Place → List MadeStep) → ℕ
+abbrev pub left_at : Script → Work → (ActPlace → List MadeStep) → ℕ
 left_at script work at =
     left_of script work (after_all (calling_next script work) (own_steps (chunk_count script.geometry) at) (new_calling (chunk_count script.geometry)))
 

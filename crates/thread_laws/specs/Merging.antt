@@ -5,7 +5,7 @@ use Rattle.store_map.specs.declared.script.Script.{Script}
 use Rattle.store_map.specs.declared.actor.Actor.{Actor}
 use Rattle.store_map.specs.declared.actor.Actor.TheVariants as actor
 use Rattle.store_map.specs.declared.actor.Token.{Token}
-use Rattle.store_core.specs.ActPlace.{Place}
+use Rattle.store_core.specs.ActPlace.{ActPlace}
 use Rattle.store_core.specs.Work.{Work, Calling, client_work, repairer_work}
 use Rattle.store_core.specs.Core.{Core, first_core}
 use Rattle.store_core.specs.Schedule.{run_core}
@@ -21,9 +21,9 @@ calling_after script steps None calling = calling
 calling_after script steps (Some work) calling = after_all (calling_next script work) steps calling
 
 -- each place and each actor ends as its own list says
-pub record EndAs (script : Script) (core : Core) (at : Place → List MadeStep) (of : Actor → List MadeStep) (end : Core) : Type 0 where
-  pub directory : end.directory ≡ after_all directory_next (at Place.Directory) core.directory
-  pub servers : (j : ℕ) → slice_get end.servers j ≡ option_map (after_all server_next (at (Place.Server j))) (slice_get core.servers j)
+pub record EndAs (script : Script) (core : Core) (at : ActPlace → List MadeStep) (of : Actor → List MadeStep) (end : Core) : Type 0 where
+  pub directory : end.directory ≡ after_all directory_next (at ActPlace.Directory) core.directory
+  pub servers : (j : ℕ) → slice_get end.servers j ≡ option_map (after_all server_next (at (ActPlace.Server j))) (slice_get core.servers j)
   pub clients :
       (i : ℕ) → slice_get end.clients i ≡ option_map (calling_after script (of (actor.Client i)) (slice_get (client_work script) i)) (slice_get core.clients i)
   pub repairers :

@@ -8,7 +8,7 @@ use Rattle.store_map.specs.declared.actor.Token.{Token}
 use Rattle.store_map.specs.declared.reply.Reply.{Reply}
 use Rattle.store_map.specs.declared.reply.Reply.TheVariants as reply
 use Rattle.store_map.specs.declared.script.Script.{Script}
-use Rattle.store_core.specs.ActPlace.{Place}
+use Rattle.store_core.specs.ActPlace.{ActPlace}
 use Rattle.store_core.specs.Content.{contents_of}
 use Rattle.store_core.specs.Core.{first_core}
 use Rattle.store_core.specs.Directory.{Event, Point}
@@ -34,8 +34,8 @@ pub record IsReply (script : Script) (points : List Point) (i number place : ℕ
 abbrev pub OwedAreReplies : Type 0
 OwedAreReplies =
     (script : Script) (lines : List Token) (h : Histories) → IsGeometry script.geometry → IsValid script → StandTwice h → GoOn script lines (first_core script) h.at h.of →
-    (i number place : ℕ) (bytes : List ℕ) → WasOwed script (h.at Place.Directory) i number place bytes →
-    IsReply script (directory_after script (h.at Place.Directory)).points i number place bytes
+    (i number place : ℕ) (bytes : List ℕ) → WasOwed script (h.at ActPlace.Directory) i number place bytes →
+    IsReply script (directory_after script (h.at ActPlace.Directory)).points i number place bytes
 
 -- more steps leave it
 abbrev pub OwedStay : Type 0

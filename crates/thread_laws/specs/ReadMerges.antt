@@ -1,6 +1,6 @@
 -- The put and the get as one run.
 use Rattle.std.specs.Prelude.{◌≡◌, List, [], ◌∷◌, map}
-use Rattle.store_core.specs.ActPlace.{Place}
+use Rattle.store_core.specs.ActPlace.{ActPlace}
 use Rattle.store_core.specs.Server.{Server}
 use Rattle.store_core.specs.Core.{first_core}
 use Rattle.thread_laws.specs.MadeSteps.{MadeStep}
@@ -12,9 +12,9 @@ use Rattle.thread_laws.specs.StatsExample.{list_at}
 use Rattle.thread_laws.specs.ReadExample.{put_get, put_looks, put_draws, prepares, commits, settles, get_looks, fetches, get_ends, read_of}
 
 -- the list of each place
-abbrev pub read_at : Place → List MadeStep
-read_at Place.Directory = put_looks ∷ put_draws ∷ commits ∷ get_looks ∷ get_ends ∷ []
-read_at (Place.Server j) =
+abbrev pub read_at : ActPlace → List MadeStep
+read_at ActPlace.Directory = put_looks ∷ put_draws ∷ commits ∷ get_looks ∷ get_ends ∷ []
+read_at (ActPlace.Server j) =
     list_at ((prepares 0 ∷ settles 0 ∷ fetches 0 ∷ []) ∷ (prepares 1 ∷ settles 1 ∷ fetches 1 ∷ []) ∷ (prepares 2 ∷ settles 2 ∷ []) ∷ (prepares 3 ∷ settles 3 ∷ []) ∷ []) j
 
 -- all steps by moment, and by client where two moments are equal

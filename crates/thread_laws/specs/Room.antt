@@ -5,7 +5,7 @@ use Rattle.clay_grid.specs.Limits.{IsGeometry}
 use Rattle.store_map.specs.Naming.{IsValid}
 use Rattle.store_map.specs.declared.actor.Actor.{Actor}
 use Rattle.store_map.specs.declared.script.Script.{Script}
-use Rattle.store_core.specs.ActPlace.{Place}
+use Rattle.store_core.specs.ActPlace.{ActPlace}
 use Rattle.store_core.specs.Work.{Work, client_work, repairer_work}
 use Rattle.thread_laws.specs.MadeSteps.{MadeStep}
 use Rattle.world_laws.specs.World.{ActorOf, steps_of}
@@ -20,7 +20,7 @@ IsWorkOf script i work = (slice_get (client_work script) i ≡ Some work) ⊎ (s
 pub record HasRoom (script : Script) (work : Work) : Type 0 where
   pub targets : HasTargets script work
   pub few : bound_of script work < 2 ^ 42
-  pub steps : (who : Actor) (at : Place → List MadeStep) (a : ActorOf) → IsCalling script who work at a → steps_of a.doing + 1 < 2 ^ 64
+  pub steps : (who : Actor) (at : ActPlace → List MadeStep) (a : ActorOf) → IsCalling script who work at a → steps_of a.doing + 1 < 2 ^ 64
 
 abbrev pub ActorsHaveRoom : Type 0
 ActorsHaveRoom = (script : Script) (i : ℕ) (work : Work) → IsGeometry script.geometry → IsValid script → IsWorkOf script i work → HasRoom script work

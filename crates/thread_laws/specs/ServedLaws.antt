@@ -7,7 +7,7 @@ use Rattle.store_map.specs.declared.actor.Token.{Token}
 use Rattle.store_map.specs.declared.script.Script.{Script}
 use Rattle.store_map.specs.declared.transcript.Transcript.{Transcript}
 use Rattle.store_core.specs.Act.{Outcome}
-use Rattle.store_core.specs.ActPlace.{Place}
+use Rattle.store_core.specs.ActPlace.{ActPlace}
 use Rattle.store_core.specs.Core.{Core, first_core}
 use Rattle.store_core.specs.Directory.{Directory}
 use Rattle.store_core.specs.History.{call_of}
@@ -29,7 +29,7 @@ use Rattle.thread_laws.specs.Run.{IsRun}
 abbrev pub HaveOwed : Script → Histories → List CallerCalls → Type 0
 HaveOwed script h clients =
     (i number place : ℕ) (bytes : List ℕ) → outcome_at clients i number ≡ Some (Outcome.Served place) → bytes_at clients i number ≡ Some bytes →
-    WasOwed script (h.at Place.Directory) i number place bytes
+    WasOwed script (h.at ActPlace.Directory) i number place bytes
 
 -- of steps that were made apart, a world that stands for the core in which they end, and the lists that hold what the world tells of it: all but what the calls in work were told
 abbrev pub OwedAreServed : Type 0

@@ -9,7 +9,7 @@ use Rattle.store_map.specs.declared.actor.Actor.{Actor}
 use Rattle.store_map.specs.declared.actor.Actor.TheVariants as actor
 use Rattle.store_core.specs.Told.{Told}
 use Rattle.store_core.specs.Act.{Act, DirectoryStep}
-use Rattle.store_core.specs.ActPlace.{Place}
+use Rattle.store_core.specs.ActPlace.{ActPlace}
 use Rattle.store_core.specs.Note.{note_of}
 use Rattle.store_core.specs.Step.{Shortage}
 use Rattle.store_core.specs.Core.{first_core}
@@ -57,9 +57,9 @@ short_of (actor.Repairer i) = []
 short_of actor.Sweeper = []
 short_of actor.Operator = []
 
-abbrev pub short_at : Place → List MadeStep
-short_at Place.Directory = looks ∷ draws ∷ asks ∷ gives_up ∷ []
-short_at (Place.Server j) = []
+abbrev pub short_at : ActPlace → List MadeStep
+short_at ActPlace.Directory = looks ∷ draws ∷ asks ∷ gives_up ∷ []
+short_at (ActPlace.Server j) = []
 
 -- the lists go on from the first core, and the run by moments ends with no pass
 pub record ShortMerges : Type 0 where

@@ -9,7 +9,7 @@ use Rattle.store_map.specs.declared.actor.Actor.TheVariants as actor
 use Rattle.store_map.specs.declared.actor.Token.TheVariants as token
 use Rattle.store_core.specs.Told.{Told}
 use Rattle.store_core.specs.Act.{Act, DirectoryStep, ServerStep}
-use Rattle.store_core.specs.ActPlace.{Place}
+use Rattle.store_core.specs.ActPlace.{ActPlace}
 use Rattle.store_core.specs.Note.{note_of}
 use Rattle.store_core.specs.Core.{first_core}
 use Rattle.thread_laws.specs.MadeSteps.{MadeStep}
@@ -54,9 +54,9 @@ stats_of actor.Sweeper = []
 stats_of actor.Operator = the_wipe ∷ []
 
 -- the list of each place
-abbrev pub stats_at : Place → List MadeStep
-stats_at Place.Directory = first_stat ∷ second_stat ∷ []
-stats_at (Place.Server j) = list_at ([] ∷ (the_wipe ∷ []) ∷ []) j
+abbrev pub stats_at : ActPlace → List MadeStep
+stats_at ActPlace.Directory = first_stat ∷ second_stat ∷ []
+stats_at (ActPlace.Server j) = list_at ([] ∷ (the_wipe ∷ []) ∷ []) j
 
 abbrev pub stats : Histories
 stats = record { at = stats_at; of = stats_of }

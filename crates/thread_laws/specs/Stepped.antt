@@ -4,7 +4,7 @@ use Rattle.clay_grid.specs.Shape.{chunk_count}
 use Rattle.store_map.specs.Limits.{size_of}
 use Rattle.store_map.specs.declared.actor.Actor.{Actor}
 use Rattle.store_map.specs.declared.script.Script.{Script}
-use Rattle.store_core.specs.ActPlace.{Place}
+use Rattle.store_core.specs.ActPlace.{ActPlace}
 use Rattle.store_core.specs.Lists.{change_at}
 use Rattle.store_core.specs.Work.{Work}
 use Rattle.thread_laws.specs.MadeSteps.{MadeStep}
@@ -42,7 +42,7 @@ pub record IsReady (script : Script) (who : Actor) (work : Work) (a : ActorOf) (
   pub is : c ≡ ready coding first
 
 -- it goes on, with fewer steps left
-pub record CallsOn (script : Script) (who : Actor) (work : Work) (before after : Place → List MadeStep) (a : ActorOf) : Type 0 where
+pub record CallsOn (script : Script) (who : Actor) (work : Work) (before after : ActPlace → List MadeStep) (a : ActorOf) : Type 0 where
   pub acting : IsCalling script who work after a
   pub falls : left_at script work after < left_at script work before
 
@@ -66,5 +66,5 @@ CallersGoOnAtDirectory =
 -- a turn that has seen more, but of its own entries the same, leaves an actor as it was
 abbrev pub CallersSeeMore : Type 0
 CallersSeeMore =
-    (script : Script) (who : Actor) (work : Work) (number : ℕ) (seen now : Logs) (a : ActorOf) → ((place : Place) → own_at number now place ≡ own_at number seen place) →
+    (script : Script) (who : Actor) (work : Work) (number : ℕ) (seen now : Logs) (a : ActorOf) → ((place : ActPlace) → own_at number now place ≡ own_at number seen place) →
     IsCalling script who work (own_at number seen) a → IsCalling script who work (own_at number now) a

@@ -7,7 +7,7 @@ use Rattle.store_map.specs.declared.actor.Actor.TheVariants as actor
 use Rattle.store_map.specs.declared.actor.Token.{Token}
 use Rattle.store_core.specs.Told.{Told}
 use Rattle.store_core.specs.Act.{Act}
-use Rattle.store_core.specs.ActPlace.{Place}
+use Rattle.store_core.specs.ActPlace.{ActPlace}
 use Rattle.store_core.specs.Server.{new_server}
 use Rattle.store_core.specs.Core.{first_core}
 use Rattle.thread_laws.specs.MadeSteps.{MadeStep, is_at}
@@ -24,7 +24,7 @@ given m = given_by m.act m.answer
 
 -- what a list of steps took from a server
 abbrev pub taken_at : ℕ → List MadeStep → ℕ
-taken_at server steps = sum_by given (filter (is_at (Place.Server server)) steps)
+taken_at server steps = sum_by given (filter (is_at (ActPlace.Server server)) steps)
 
 -- what the lists of all clients and repairers, of the sweeper and of the operator took from it
 abbrev pub taken_by_all : Script → Histories → ℕ → ℕ
@@ -38,4 +38,4 @@ abbrev pub ServersCountTakes : Type 0
 ServersCountTakes =
     (script : Script) (lines : List Token) (h : Histories) → StandTwice h → GoOn script lines (first_core script) h.at h.of →
     (server : ℕ) → server < chunk_count script.geometry →
-    (after_all server_next (h.at (Place.Server server)) new_server).taken ≡ min (taken_by_all script h server) (2 ^ 64 - 1)
+    (after_all server_next (h.at (ActPlace.Server server)) new_server).taken ≡ min (taken_by_all script h server) (2 ^ 64 - 1)

@@ -1,6 +1,6 @@
 use Rattle.std.proofs.Common.{◌≡◌, ◌∷◌, ◌++◌, [], ℕ, sym, ap, subst, ◌∙◌}
 use Rattle.store_core.specs.Agreement.{Agrees}
-use Rattle.store_core.specs.ActPlace.{Place}
+use Rattle.store_core.specs.ActPlace.{ActPlace}
 use Rattle.call_machine.specs.Calls.{MachineOf}
 use Rattle.actors.specs.Callers.{CallerOf}
 use Rattle.actors.specs.Steps.{MadeAtDirectory}
@@ -81,9 +81,9 @@ give_step-requires g c =
             (sym c.of-stood.ensures)
             (caller_stands of n held.max c.args.turn.now.numbers c.args.turn.now.seen log held.directory before.call there g.last a left (work_is before.call a before.work) now made c.on_directory-left.ensures.book)),
         subst
-            (λ (b : BookOf). IsOperated b.script Place.Directory (made_in (log ++ entry_at_directory n c.of-stood.result.value.work left c.of-before.result.value.directory log g.last ∷ [])))
+            (λ (b : BookOf). IsOperated b.script ActPlace.Directory (made_in (log ++ entry_at_directory n c.of-stood.result.value.work left c.of-before.result.value.directory log g.last ∷ [])))
             (sym c.on_directory-left.ensures.book)
-            (others_at_directory held.directory.book.script Place.Directory log (entry_at_directory n c.of-stood.result.value.work left c.of-before.result.value.directory log g.last)
+            (others_at_directory held.directory.book.script ActPlace.Directory log (entry_at_directory n c.of-stood.result.value.work left c.of-before.result.value.directory log g.last)
             (call_at_directory n c.of-stood.result.value.work before.call left c.of-before.result.value.directory log g.last
             (ap (λ (x : CallerOf). x.work) c.of-stood.ensures ∙ work_is before.call a before.work) before.calls)
             c.take-held.ensures.stands.1),

@@ -1,7 +1,7 @@
 use Rattle.std.proofs.Common.{◌∷◌, ◌++◌, [], ℕ, refl, sym, ap, subst, ◌∙◌}
 use Rattle.store_map.specs.declared.actor.Actor.TheVariants as actor
 use Rattle.store_core.specs.Act.{Act}
-use Rattle.store_core.specs.ActPlace.{Place}
+use Rattle.store_core.specs.ActPlace.{ActPlace}
 use Rattle.store_core.specs.Server.{Server}
 use Rattle.store_core.specs.Told.{Told}
 use Rattle.thread_laws.specs.MadeSteps.{MadeStep}
@@ -45,10 +45,10 @@ give_server-requires g c =
             (plain_stands held.server.number n g.last actor.Operator step (core_of held.server) (core_of now) (ap (λ (p : Server × Told). p.0) c.operate.ensures.core) log of c.take-held.ensures.stands.0 f.turn)),
         same_operated held.server.book now.book held.server.number now.number _ c.operate.ensures.same.book c.operate.ensures.same.number
             (subst
-            (λ (b : ServerBox). IsOperated held.server.book.script (Place.Server held.server.number)
+            (λ (b : ServerBox). IsOperated held.server.book.script (ActPlace.Server held.server.number)
             (steps_in (log ++ plain_at_server n actor.Operator (Act.AtServer b.server.number step) (core_of b.server) log g.last ∷ [])))
             (sym c.of-before.ensures)
-            (line_at_server of held.server.book.script (Place.Server held.server.number) n f.turn c.args.turn.now.numbers c.requires.1.1.0.number c.args.turn.now.seen log
+            (line_at_server of held.server.book.script (ActPlace.Server held.server.number) n f.turn c.args.turn.now.numbers c.requires.1.1.0.number c.args.turn.now.seen log
             (plain_at_server n actor.Operator (Act.AtServer held.server.number step) (core_of held.server) log g.last).1 c.take-held.ensures.stands.0.turns c.take-held.ensures.seen refl (line_theirs c.args.line) f.next
             c.take-held.ensures.stands.1)),
       ),

@@ -1,7 +1,7 @@
 use Rattle.std.proofs.Common.{◌∷◌, ◌++◌, [], refl, sym, ap, subst, ◌∙◌}
 use Rattle.store_map.specs.declared.actor.Actor.TheVariants as actor
 use Rattle.store_core.specs.Act.{Act, DirectoryStep}
-use Rattle.store_core.specs.ActPlace.{Place}
+use Rattle.store_core.specs.ActPlace.{ActPlace}
 use Rattle.store_core.specs.Directory.{Directory}
 use Rattle.store_core.specs.Told.{Told}
 use Rattle.version_seal.specs.Entry.{BookOf}
@@ -37,11 +37,11 @@ give_directory-requires g c =
             (plain_stands_there n g.last actor.Operator (λ no. no) step tt held.directory now (ap (λ (p : Directory × Told). p.0) (c.reap.ensures.step actor.Operator 0)) log of held.max c.keeps.ensures.bytes
             c.keeps.ensures.whole.sound c.reap.ensures.book c.reap.ensures.stamps c.take-held.ensures.stands.0 f.turn),
         subst
-            (λ (b : BookOf). IsOperated b.script Place.Directory (made_in (log ++ plain_at_directory n actor.Operator (Act.AtDirectory step) c.of-before.result.value.directory log g.last ∷ [])))
+            (λ (b : BookOf). IsOperated b.script ActPlace.Directory (made_in (log ++ plain_at_directory n actor.Operator (Act.AtDirectory step) c.of-before.result.value.directory log g.last ∷ [])))
             (sym c.reap.ensures.book)
-            (subst (λ (b : DirectoryBox). IsOperated held.directory.book.script Place.Directory (made_in (log ++ plain_at_directory n actor.Operator (Act.AtDirectory step) b.directory log g.last ∷ [])))
+            (subst (λ (b : DirectoryBox). IsOperated held.directory.book.script ActPlace.Directory (made_in (log ++ plain_at_directory n actor.Operator (Act.AtDirectory step) b.directory log g.last ∷ [])))
             (sym c.of-before.ensures)
-            (line_at_directory of held.directory.book.script Place.Directory n f.turn c.args.turn.now.numbers c.requires.1.1.0.number c.args.turn.now.seen log
+            (line_at_directory of held.directory.book.script ActPlace.Directory n f.turn c.args.turn.now.numbers c.requires.1.1.0.number c.args.turn.now.seen log
             (plain_at_directory n actor.Operator (Act.AtDirectory step) held.directory log g.last).1 c.take-held.ensures.stands.0.turns c.take-held.ensures.seen refl refl f.next c.take-held.ensures.stands.1)),
       ),
     )

@@ -1,7 +1,7 @@
 use Rattle.std.proofs.Common.{◌≡◌, ◌∷◌, ◌++◌, [], ℕ, sym, ap, subst, ◌∙◌}
 use Rattle.thread_laws.specs.MadeSteps.{MadeStep}
 use Rattle.chunk_server.specs.Core.{core_of}
-use Rattle.store_core.specs.ActPlace.{Place}
+use Rattle.store_core.specs.ActPlace.{ActPlace}
 use Rattle.call_machine.specs.Calls.{MachineOf}
 use Rattle.actors.specs.Callers.{CallerOf}
 use Rattle.actors.specs.Steps.{MadeAtServer}
@@ -56,7 +56,7 @@ give_step-requires g c =
             (sym c.of-stood.ensures)
             (caller_stands n g.last c.args.caller.now before.call left (work_is before.call c.args.caller.now before.work) held.server s made h.needs log of c.take-held.ensures.stands.0 h.turn))),
         same_operated held.server.book s.book held.server.number s.number _ c.on_server-left.ensures.same.book c.on_server-left.ensures.same.number
-            (others_at_server held.server.book.script (Place.Server held.server.number) log _
+            (others_at_server held.server.book.script (ActPlace.Server held.server.number) log _
             (call_at_server n c.of-stood.result.value.work before.call left (core_of c.of-before.result.value.server) log g.last
             (ap (λ (a : CallerOf). a.work) c.of-stood.ensures ∙ work_is before.call c.args.caller.now before.work) before.calls)
             c.take-held.ensures.stands.1),

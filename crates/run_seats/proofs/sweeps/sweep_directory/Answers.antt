@@ -1,6 +1,6 @@
 use Rattle.std.proofs.Common.{◌∷◌, ◌++◌, [], refl, sym, ap, subst, ◌∙◌}
 use Rattle.store_map.specs.declared.actor.Actor.TheVariants as actor
-use Rattle.store_core.specs.ActPlace.{Place}
+use Rattle.store_core.specs.ActPlace.{ActPlace}
 use Rattle.version_seal.specs.Entry.{BookOf}
 use Rattle.sweeper.specs.Sweeps.{SweeperOf, act_of}
 use Rattle.turn_lock.specs.TurnState.{TurnState}
@@ -39,9 +39,9 @@ give_directory-requires g c =
             (sweep_stands_there n g.last s c.on_directory.new.self c.requires.1.1.1.needs held.directory now (c.on_directory.ensures.step actor.Sweeper 0) log of held.max c.keeps.ensures.bytes c.keeps.ensures.whole.sound
             c.on_directory.ensures.book c.on_directory.ensures.stamps c.take-held.ensures.stands.0 turn)),
         subst
-            (λ (b : BookOf). IsOperated b.script Place.Directory (made_in (log ++ plain_at_directory n actor.Sweeper (act_of c.of-stood.result.value) c.of-before.result.value.directory log g.last ∷ [])))
+            (λ (b : BookOf). IsOperated b.script ActPlace.Directory (made_in (log ++ plain_at_directory n actor.Sweeper (act_of c.of-stood.result.value) c.of-before.result.value.directory log g.last ∷ [])))
             (sym c.on_directory.ensures.book)
-            (others_at_directory held.directory.book.script Place.Directory log (plain_at_directory n actor.Sweeper (act_of c.of-stood.result.value) c.of-before.result.value.directory log g.last)
+            (others_at_directory held.directory.book.script ActPlace.Directory log (plain_at_directory n actor.Sweeper (act_of c.of-stood.result.value) c.of-before.result.value.directory log g.last)
             (sweeps_plain c.of-stood.result.value.servers c.of-stood.result.value.at, refl) c.take-held.ensures.stands.1),
       ),
     )

@@ -1,6 +1,6 @@
 use Rattle.std.proofs.Common.{◌∷◌, ◌++◌, [], ℕ, refl, sym, ap, subst, ◌∙◌}
 use Rattle.store_map.specs.declared.actor.Actor.TheVariants as actor
-use Rattle.store_core.specs.ActPlace.{Place}
+use Rattle.store_core.specs.ActPlace.{ActPlace}
 use Rattle.thread_laws.specs.MadeSteps.{MadeStep}
 use Rattle.chunk_server.specs.Core.{core_of}
 use Rattle.sweeper.specs.Sweeps.{SweeperOf, act_of}
@@ -41,7 +41,7 @@ give_server-requires g c =
             (sym c.of-stood.ensures)
             (sweep_stands n g.last s c.on_server.new.self held.server.number f.needs (core_of held.server) (core_of now) c.on_server.ensures.step log of c.take-held.ensures.stands.0 f.turn))),
         same_operated held.server.book now.book held.server.number now.number _ c.on_server.ensures.same.book c.on_server.ensures.same.number
-            (others_at_server held.server.book.script (Place.Server held.server.number) log _ (sweeps_plain c.of-stood.result.value.servers c.of-stood.result.value.at, refl) c.take-held.ensures.stands.1),
+            (others_at_server held.server.book.script (ActPlace.Server held.server.number) log _ (sweeps_plain c.of-stood.result.value.servers c.of-stood.result.value.at, refl) c.take-held.ensures.stands.1),
       ),
     )
 
