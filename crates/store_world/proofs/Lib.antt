@@ -4,8 +4,7 @@ pub mod Knowing
 pub mod Keeping
 pub mod Callers
 pub mod Told
-pub mod Clients
-pub mod Repairers
+pub mod Turning
 pub mod Places
 pub mod Having
 pub mod Watching

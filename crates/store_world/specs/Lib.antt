@@ -1,10 +1,12 @@
 pub mod Stored
+pub mod ByActor
 pub mod Kept
 pub mod Inside
 pub mod Telling
 pub mod Watched
 pub mod Traced
 pub mod Having
+pub mod InList
 pub mod First
 pub mod Ending
 pub mod Looked

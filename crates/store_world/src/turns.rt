@@ -3,16 +3,21 @@ ghost use Rattle.std.specs.Prelude.{◌≡◌, ◌<◌, true, length, slice_get,
 ghost use Rattle.store_map.specs.declared.actor.Token.{Token};
 ghost use Rattle.store_map.specs.declared.script.Script.{Script};
 ghost use Rattle.store_core.specs.Run.{client_step, repairer_step};
+ghost use Rattle.call_machine.specs.Calls.{ArePadded};
 ghost use Rattle.actors.specs.Callers.{CallerOf};
 ghost use Rattle.store_world.specs.Having.{caller_has};
+ghost use Rattle.store_world.specs.InList.{ReadyAt, TurnedIn};
 ghost use Rattle.store_world.specs.Stored.{LeadsBy};
 ghost use Rattle.store_world.specs.Telling.{LeadsTold, steps_in};
 
 use crate::world::World;
 use actors::Caller;
 use call_steps::Step;
+use chunk_server::Server;
 use clay_model::Coder;
 use std::thread::Threads;
+use stripe_dir::Directory;
+use version_seal::Book;
 
 // Whether there is such a caller and it has a step.
 fn has_step(callers: &[Caller], i: u32) -> bool
@@ -24,6 +29,27 @@ fn has_step(callers: &[Caller], i: u32) -> bool
         Some(caller) => caller.has_step(),
         None => false,
     }
+}
+
+// The turn of the caller at this place of its list, if it is there and has a step.
+fn turn_in<'a, R: Threads + Sync, C: Coder>(
+    rt: &R,
+    coder: &C,
+    callers: &mut Vec<Caller<'a>>,
+    i: u32,
+    directory: &mut Directory,
+    book: &Book,
+    servers: &mut Vec<Server>,
+) -> Option<Step>
+    requires ready { (c : CallerOf) → slice_get callers.old.items i ≡ Some c → ReadyAt directory.old book.now servers.old.items i c }
+    requires padded { ArePadded directory.old }
+    ensures { TurnedIn i callers.old.items directory.old servers.old.items result callers.new.items directory.new servers.new.items }
+{
+    if !has_step(callers, i) {
+        return None;
+    }
+    let step = callers[i as usize].turn(rt, coder, i, directory, book, servers);
+    Some(step)
 }
 
 impl<'a> World<'a> {
@@ -41,18 +67,15 @@ impl<'a> World<'a> {
         ensures same_book { self.new.book ≡ self.old.book }
     {
         self.directory.keeps();
-        if !has_step(&self.clients, i) {
-            return None;
-        }
-        let step = self.clients[i as usize].turn(
+        turn_in(
             rt,
             coder,
+            &mut self.clients,
             i,
             &mut self.directory,
             self.book,
             &mut self.servers,
-        );
-        Some(step)
+        )
     }
 
     /// The turn of repairer i, and the step that it made. Where there is no such repairer or it has no
@@ -69,17 +92,14 @@ impl<'a> World<'a> {
         ensures same_book { self.new.book ≡ self.old.book }
     {
         self.directory.keeps();
-        if !has_step(&self.repairers, i) {
-            return None;
-        }
-        let step = self.repairers[i as usize].turn(
+        turn_in(
             rt,
             coder,
+            &mut self.repairers,
             i,
             &mut self.directory,
             self.book,
             &mut self.servers,
-        );
-        Some(step)
+        )
     }
 }
