@@ -1,5 +1,5 @@
 use Rattle.share_run.proofs.MadeLemmas.{cut_rebuilt, cut_mended, cut_unstopped}
-use Rattle.share_run.proofs.laws_of_share_files.cut_shares_mend.Goals as goal
+use Rattle.share_run.proofs.laws_of_cuts.cut_shares_mend.Goals as goal
 
 pub returns-clause-blocks : goal.returns-clause-blocks
 returns-clause-blocks c = cut_rebuilt

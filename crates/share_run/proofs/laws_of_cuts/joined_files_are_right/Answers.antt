@@ -1,5 +1,5 @@
 use Rattle.share_run.proofs.JoinLemmas.{placed_is, none_other}
-use Rattle.share_run.proofs.laws_of_share_files.joined_files_are_right.Goals as goal
+use Rattle.share_run.proofs.laws_of_cuts.joined_files_are_right.Goals as goal
 
 pub returns-clause-placed : goal.returns-clause-placed
 returns-clause-placed c = placed_is
