@@ -14,14 +14,14 @@ IsCaller (actor.Repairer i) = ⊤
 IsCaller actor.Sweeper = ⊥
 IsCaller actor.Operator = ⊥
 
--- the token of a caller's turn; no other actor has one
+-- the token of a caller's turn (of no other actor it is asked)
 abbrev pub turn_token : Actor → Token
 turn_token (actor.Client i) = token.Client i
 turn_token (actor.Repairer i) = token.Repairer i
 turn_token actor.Sweeper = token.Sweep
 turn_token actor.Operator = token.Sweep
 
--- the list that has the caller, and its place there
+-- the list that has the caller, and its place there (of no other actor they are asked)
 abbrev pub list_of : Actor → StoredWorld → List CallerOf
 list_of (actor.Client i) s = s.clients
 list_of (actor.Repairer i) s = s.repairers

@@ -4,6 +4,7 @@ pub mod Knowing
 pub mod Keeping
 pub mod Callers
 pub mod Told
+pub mod ByActor
 pub mod Turning
 pub mod Places
 pub mod Having

@@ -38,7 +38,7 @@ use Rattle.actors.specs.Callers.{PartOf, CallerOf, StandsIn, who_of, work_of}
 use Rattle.actors.specs.CallerTurns.{HasMore, MakesCallerTurn}
 use Rattle.actors.proofs.Leading.{all_turns_lead}
 use Rattle.store_world.specs.ServeLaws.{HasMorePoints}
-use Rattle.store_world.specs.ByActor.{IsCaller, list_of, place_of, turn_token}
+use Rattle.store_world.proofs.ByActor.{IsCaller, list_of, place_of, turn_token}
 use Rattle.store_world.specs.Having.{caller_has}
 use Rattle.store_world.specs.InList.{HasNone, HasTurned, ReadyAt, TurnedIn}
 use Rattle.store_world.specs.Stored.{StoredWorld, world_of}

@@ -1,5 +1,4 @@
 pub mod Stored
-pub mod ByActor
 pub mod Kept
 pub mod Inside
 pub mod Telling
