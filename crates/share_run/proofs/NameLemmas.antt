@@ -1,5 +1,5 @@
 -- The names of shares that are listed.
-use Rattle.std.proofs.Common.{◌≡◌, ◌≢◌, ◌+◌, ◌*◌, ◌/◌, ◌%◌, ◌≤◌, ◌<◌, ◌++◌, ℕ, zero, suc, List, [], ◌∷◌, length, Option, Some, None, Bool, true, false, IfSome, decimal, slice_index_or, string_bytes, ap, sym, subst, refl, ◌∙◌, arith, set, Decides, MatchBool, ⊎_elim}
+use Rattle.std.proofs.Common.{◌≡◌, ◌≢◌, ◌+◌, ◌*◌, ◌/◌, ◌%◌, ◌≤◌, ◌<◌, ◌++◌, ℕ, zero, suc, List, [], ◌∷◌, length, Option, Some, None, Bool, true, false, MatchOption, decimal, slice_index_or, string_bytes, ap, sym, subst, refl, ◌∙◌, arith, set, Decides, MatchBool, ⊎_elim}
 use Rattle.std.specs.Prelude.{String}
 use Rattle.std.specs.Global.{Global}
 use Rattle.std.specs.Vec.{with_item}
@@ -35,16 +35,11 @@ pub decided : (b : Bool) (P : Type 0) → Decides b P → MatchBool b P (P → �
 decided true P test = test.0 refl
 decided false P test = λ holds. true≢false (sym (test.1 holds))
 
--- what holds of a value that isn't there
-pub if_none : {A : Type 0} (P : A → Type 0) (o : Option A) → ((x : A) → o ≡ Some x → ⊥) → IfSome o P
-if_none P None none = tt
-if_none P (Some x) none = absurd (none x refl)
-
 -- once the cut is known, the shares that are listed are those of it
 pub own_listed : (old new : ShareNames) (cut : List ℕ) (is : Bool) → AreListed old → IsOwn old new cut is → AreListed new
 own_listed old new cut is listed own =
     let kept : (s : String Global) → old.cut ≡ Some s → new.cut ≡ Some s =
-    λ s there. ap (λ n. n.cut) own.new_is ∙ ap (λ (x : String Global). Some x) (sym (subst (λ o. IfSome o (λ before. before ≡ own.own)) there own.kept)) in
+    λ s there. ap (λ n. n.cut) own.new_is ∙ ap (λ (x : String Global). Some x) (sym (subst (λ o. MatchOption o (string_bytes own.own ≡ cut) (λ before. before ≡ own.own)) there own.kept)) in
     record {
       places = ap (λ n. length n.names.items) own.new_is ∙ listed.places;
       of_one_cut = λ number name there.

@@ -1,11 +1,11 @@
-//! The code of a cut: the numbers that words give, and those that a file's length gives.
+//! The code of a cut: the numbers that a command gives, and those that a file's length gives.
 ghost use Rattle.std.specs.Prelude.{◌≡◌, ◌-◌, IfOk, IfErr};
 ghost use Rattle.clay_aloof.specs.Limits.{IsAloof, IsFirstFault};
 ghost use Rattle.share_run.specs.Code.{helpers_asked, code_with, IsForFile, IsCodeFor, least_width};
 
 use clay_aloof::{AloofGeometry, BadAloof};
 
-/// The numbers of a code as far as words give them.
+/// The numbers of a code as far as a command gives them.
 #[derive(Clone, Copy)]
 pub struct CodeAsked {
     pub k: u32,
@@ -39,8 +39,7 @@ impl CodeAsked {
         AloofGeometry::new(self.k, self.m, self.helpers(), width)
     }
 
-    // The bytes of a subchunk for a file of so many bytes. With subchunks of one byte a stripe has as many bytes as the data chunks have
-    // subchunks.
+    // The bytes of a subchunk for a file of so many bytes: as often as it has the bytes of a stripe with subchunks of one byte.
     fn width_for(&self, narrow: AloofGeometry, size: u64) -> u32
         requires { narrow ≡ code_with self.now 1 }
         ensures { IsForFile self.now size result }
@@ -52,7 +51,7 @@ impl CodeAsked {
 }
 
 /// The code for a file of so many bytes. All other chunks help where no number of helpers is given. Where no width is given, the subchunks
-/// are such that the file is one stripe, as far as a page of memory and the limit of a chunk allow.
+/// are the narrowest with which the file is one stripe, or the widest that a page of memory and the limit of a chunk allow.
 pub fn code_for(asked: CodeAsked, size: u64) -> Result<AloofGeometry, BadAloof>
     ensures code { IfOk result (IsCodeFor asked size) }
     ensures refused { IfErr result (IsFirstFault (code_with asked (least_width asked))) }

@@ -42,10 +42,10 @@ fn numbered(name: &str) -> Option<(&str, usize)>
     }
 }
 
-/// The names of a folder's shares.
+/// The names of a folder's shares. Those of another file end the list.
 #[derive(Drop)]
 pub struct ShareNames {
-    /// What the file is called that was cut, once there is a share.
+    /// What the file is called that was cut, where it is known.
     pub cut: Option<String>,
     /// By their numbers those of its shares.
     pub names: Vec<Option<String>>,
@@ -113,7 +113,7 @@ impl ShareNames {
         }
     }
 
-    /// The name of a share.
+    /// The name of a listed share, where there is one.
     pub fn first(&self) -> Option<&str>
         ensures { MatchOption result (IsNoneListed self.now) (λ name. IsOneOf self.now name.now) }
     {
@@ -128,7 +128,7 @@ impl ShareNames {
         None
     }
 
-    /// What the file is called that was cut, and nothing where there is no share.
+    /// What the file is called that was cut, and nothing where it isn't known.
     pub fn cut_name(&self) -> &str
         ensures { IsCutName self.now result.now }
     {
@@ -157,7 +157,9 @@ fn note_shares<R: Files<File = File> + AllocGlobal + Clone + Drop>(
     Ok(())
 }
 
-/// The names of the shares in a folder. An error is the system's, or says that memory was wanting.
+/// The names of the shares in a folder, up to the first of another file. An error is the system's, or says that memory was wanting.
+///
+/// What a folder holds no contract of std tells, so none says here that all are listed.
 pub fn list_shares<R: Files<File = File> + AllocGlobal + Clone + Drop>(
     rt: &R,
     folder: &str,
