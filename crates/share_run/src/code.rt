@@ -39,7 +39,7 @@ impl CodeAsked {
         AloofGeometry::new(self.k, self.m, self.helpers(), width)
     }
 
-    // The bytes of a subchunk for a file of so many bytes: as often as it has the bytes of a stripe with subchunks of one byte.
+    // The bytes of a subchunk for a file of so many bytes. A stripe grows with them: `narrow` has one byte.
     fn width_for(&self, narrow: AloofGeometry, size: u64) -> u32
         requires { narrow ≡ code_with self.now 1 }
         ensures { IsForFile self.now size result }
